@@ -1,0 +1,5 @@
+pub mod Causes
+pub mod History
+pub mod Moments
+pub mod Synced
+pub mod Times
