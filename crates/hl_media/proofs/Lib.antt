@@ -1,3 +1,4 @@
 pub mod Images
 pub mod Runs
+pub mod Sayings
 pub mod SyncedWrites

@@ -20,3 +20,6 @@ pub use rack::Rack;
 pub use source::Source;
 pub use synced::write_synced;
 pub use volume::Volume;
+
+#[cfg(test)]
+mod tests;

@@ -7,6 +7,7 @@ use std::alloc::{AllocError, Global};
 use std::marker::Model;
 
 /// The volumes of a jukebox by their numbers, from 0 on.
+#[derive(Drop)]
 pub struct Rack<V> {
     volumes: Vec<V>,
 }
