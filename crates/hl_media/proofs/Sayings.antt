@@ -1,12 +1,13 @@
 -- How what is said is put together.
 use Rattle.std.proofs.Common.{⊎_elim, ℕ, List, [], ◌∷◌, ◌++◌, map, take, drop, Option, Result, Ok, Err, refl, sym, ◌∙◌, ap, subst, append-nil, take-append-drop}
+use Rattle.std.specs.Prelude.{OnOk, OnErr}
 use Rattle.std.specs.List.{concat}
 use Rattle.std.proofs.lemmas.List.{map-append}
 use Rattle.std.proofs.lemmas.List.Folds.{concat-append}
 use Rattle.hl_media.specs.declared.failed.Failed.{Failed}
 use Rattle.hl_media.specs.History.{History, with_calls, Adds, DidSay}
 use Rattle.hl_media.specs.History.DeviceCall.{Say}
-use Rattle.hl_media.specs.Saying.{Says, SaysSome}
+use Rattle.hl_media.specs.Saying.{Says, SaysSome, OnlySays}
 use Rattle.hl_media.proofs.Runs.{with_none, with_more}
 
 -- before anything is said
@@ -55,3 +56,19 @@ says_part before now text e adds = ⊎_elim
 pub says_some : (before now : Option History) (text : List ℕ) (result : Result (Unit {0}) Failed) → Adds before now (DidSay text result) → SaysSome before now text
 says_some before now text (Ok u) adds = record { part = text; rest = []; cut = sym (append-nil text); says = says_all before now text u adds }
 says_some before now text (Err e) adds = says_part before now text e adds
+
+-- as the two clauses of a call
+pub on_ok_says : (before now : Option History) (text : List ℕ) (result : Result (Unit {0}) Failed) → Adds before now (DidSay text result) → OnOk result (Says before now text)
+on_ok_says before now text (Ok u) adds = says_all before now text u adds
+on_ok_says before now text (Err e) adds = tt
+
+pub on_err_says : (before now : Option History) (text : List ℕ) (result : Result (Unit {0}) Failed) → Adds before now (DidSay text result) → OnErr result (SaysSome before now text)
+on_err_says before now text (Ok u) adds = tt
+on_err_says before now text (Err e) adds = says_part before now text e adds
+
+-- a part of a text is a text
+pub only_says_some : (before now : Option History) (text : List ℕ) → SaysSome before now text → OnlySays before now
+only_says_some before now text some = (some.part, some.says)
+
+pub only_says_more : (before mid now : Option History) → OnlySays before mid → OnlySays mid now → OnlySays before now
+only_says_more before mid now first more = (first.0 ++ more.0, says_more before mid now first.0 more.0 first.1 more.1)

@@ -16,3 +16,7 @@ pub record SaysSome (before now : Option History) (text : List ℕ) : Type 0 whe
   pub rest : List ℕ
   pub cut : text ≡ part ++ rest
   pub says : Says before now part
+
+-- nothing but saying is done
+abbrev pub OnlySays : Option History → Option History → Type 0
+OnlySays before now = (text : List ℕ) × Says before now text

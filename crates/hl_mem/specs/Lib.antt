@@ -1,0 +1,4 @@
+pub mod Failing
+pub mod Recorded
+pub mod Kept
+pub mod Told

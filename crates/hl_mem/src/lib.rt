@@ -1,0 +1,19 @@
+//! Devices in memory, for tests: they tell everything, and fail at the calls that they are told to.
+#![tactic(auto)]
+
+mod call;
+mod clock;
+mod failing;
+mod machine;
+mod recording;
+mod source;
+mod tear;
+#[cfg(test)]
+mod tests;
+mod volume;
+
+pub use clock::MemClock;
+pub use machine::MemMachine;
+pub use source::MemSource;
+pub use tear::Tear;
+pub use volume::MemVolume;

@@ -1,0 +1,10 @@
+pub mod Contents
+pub mod Moved
+pub mod Names
+pub mod OtherContents
+pub mod Places
+pub mod Plain
+pub mod PlainValue
+pub mod Refusals
+pub mod Rules
+pub mod Tree
