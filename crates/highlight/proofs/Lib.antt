@@ -1,3 +1,5 @@
 mod Answering
+mod Hearing
+mod OneLine
 mod OneWord
 mod Turning

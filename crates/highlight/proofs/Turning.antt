@@ -11,8 +11,9 @@ use Rattle.hl_tree.specs.declared.call.Limits.{Limits}
 use Rattle.hl_script.specs.Spelling.{spelling}
 use Rattle.hl_script.specs.Answer.{answer_line}
 use Rattle.hl_script.specs.Input.{Ahead, lines_of, beyond}
-use Rattle.highlight.specs.Run.{DoneLine, IsGood, IsPlain, ArePlain, tree_after_line, tree_after, answers, Ends, Ran, KeepsLimits, PassesLimit, bad_text}
+use Rattle.highlight.specs.Run.{DoneLine, IsGood, IsPlain, ArePlain, tree_after_line, tree_after, answers, Ends, Ran, RanBy, KeepsLimits, PassesLimit, bad_text}
 use Rattle.highlight.specs.Turn.{Turns}
+use Rattle.highlight.proofs.Hearing.{heard}
 use Rattle.hl_world.specs.Worlds.{Does}
 use Rattle.hl_script.specs.declared.line.Line.{Line}
 use Rattle.hl_script.specs.declared.line.Line.TheVariants as line
@@ -141,42 +142,42 @@ module _ (limits : Limits) (opening : Files) where
       let past = subst (λ (k : ℕ). PassesLimit k (old.used + length rest) rest) same t.0 in
       ([], (subst (λ (k : ℕ). PassesLimit limit k rest) has.size past, refl), t.1)
 
+  ran_by : (limit : ℕ) (input : List ℕ) (end : End) (text : List ℕ) (before now : Option History) → Ran limits limit opening input end text → Says before now text
+      → RanBy limits limit opening input end before now
+  ran_by limit input end text before now ran says = (text, ran, says, heard ran.done ran.last before now text ran.said says)
+
   pub ran_from_turn : (limit : ℕ) (input rest left : Option (List ℕ)) (n : ℕ) (old new : Ahead) (files files' : Plain) (start now next : Option History) (end : End)
       → old.limit ≡ limit
       → Stands limits opening input rest n old.used files start now
       → IfSome rest (λ bytes. Turns n old new files files' bytes left now next (Err end))
-      → IfSome input (λ bytes. (text : List ℕ) × Ran limits limit opening bytes end text × Says start next text)
+      → IfSome input (λ bytes. RanBy limits limit opening bytes end start next)
   ran_from_turn limit None rest left n old new files files' start now next end same s t = tt
   ran_from_turn limit (Some input) None left n old new files files' start now next end same s t = absurd s
   ran_from_turn limit (Some input) (Some rest) left n old new files files' start now next end same s t =
       let has = s.1 in
-      let ends = ends_from_turn limit input rest n old new files files' s.0 left now next end has same t in (
-        s.0 ++ ends.0,
-        record { done = has.done; rest = rest; last = ends.0; cut = has.cut; good = has.good; plain = has.plain; said = ap (λ l. l ++ ends.0) has.said; ends = ends.1 },
-        says_more start now next s.0 ends.0 s.2 ends.2,
-      )
+      let ends = ends_from_turn limit input rest n old new files files' s.0 left now next end has same t in
+      ran_by limit input end (s.0 ++ ends.0) start next
+      (record { done = has.done; rest = rest; last = ends.0; cut = has.cut; good = has.good; plain = has.plain; said = ap (λ l. l ++ ends.0) has.said; ends = ends.1 })
+      (says_more start now next s.0 ends.0 s.2 ends.2)
 
   pub ran_to_the_end : (limit : ℕ) (input rest left : Option (List ℕ)) (n : ℕ) (old new : Ahead) (files files' : Plain) (start now next : Option History)
       → old.used ≤ limit
       → Stands limits opening input rest n old.used files start now
       → IfSome rest (λ bytes. Turns n old new files files' bytes left now next (Ok false))
-      → IfSome input (λ bytes. (text : List ℕ) × Ran limits limit opening bytes Finished text × Says start next text)
+      → IfSome input (λ bytes. RanBy limits limit opening bytes Finished start next)
   ran_to_the_end limit None rest left n old new files files' start now next fits s t = tt
   ran_to_the_end limit (Some input) None left n old new files files' start now next fits s t = absurd s
   ran_to_the_end limit (Some input) (Some rest) left n old new files files' start now next fits s t =
       let has = s.1 in
       let none : length rest ≡ 0 = ap length t.0 in
-      let size = has.size in (
-        s.0 ++ [],
-        record { done = has.done; rest = rest; last = []; cut = has.cut; good = has.good; plain = has.plain; said = ap (λ l. l ++ []) has.said; ends = (t.0, omega arith, refl) },
-        says_more start now next s.0 [] s.2 t.1,
-      )
+      let size = has.size in
+      ran_by limit input Finished (s.0 ++ []) start next
+      (record { done = has.done; rest = rest; last = []; cut = has.cut; good = has.good; plain = has.plain; said = ap (λ l. l ++ []) has.said; ends = (t.0, omega arith, refl) })
+      (says_more start now next s.0 [] s.2 t.1)
 
   -- a run that ends before its first line
-  pub ran_not_at_all : (limit : ℕ) (input : Option (List ℕ)) (start : Option History) → IfSome input (λ bytes. (text : List ℕ) × Ran limits limit opening bytes Memory text × Says start start text)
+  pub ran_not_at_all : (limit : ℕ) (input : Option (List ℕ)) (start : Option History) → IfSome input (λ bytes. RanBy limits limit opening bytes Memory start start)
   ran_not_at_all limit None start = tt
-  ran_not_at_all limit (Some input) start = (
-    [],
-    record { done = []; rest = input; last = []; cut = refl; good = All-nil (λ d. IsGood d.line); plain = λ j. tt; said = refl; ends = refl },
-    says_nothing start,
-  )
+  ran_not_at_all limit (Some input) start = ran_by limit input Memory [] start start
+      (record { done = []; rest = input; last = []; cut = refl; good = All-nil (λ d. IsGood d.line); plain = λ j. tt; said = refl; ends = refl })
+      (says_nothing start)

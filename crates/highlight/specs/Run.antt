@@ -1,6 +1,7 @@
 -- A run: the lines that are done, the tree after each, what is said, and why it ends.
-use Rattle.std.specs.Prelude.{◌≡◌, ◌⊎◌, ℕ, ◌+◌, ◌<◌, ◌≤◌, IsTrue, IfSome, List, [], ◌∷◌, ◌++◌, length, take, map, flat_map, slice_get, All, Option, codes, decimal}
-use Rattle.hl_media.specs.History.{History}
+use Rattle.std.specs.Prelude.{◌≡◌, ◌⊎◌, ℕ, suc, if◌then◌else◌, ◌+◌, ◌<◌, ◌≤◌, IsTrue, IfSome, List, [], ◌∷◌, ◌++◌, length, take, map, flat_map, slice_get, All, Option, codes, decimal}
+use Rattle.hl_media.specs.History.{History, MachineState}
+use Rattle.hl_media.specs.Moments.{AtEachMomentSince}
 use Rattle.hl_media.specs.Saying.{Says}
 use Rattle.hl_tree.specs.declared.call.Call.{Call}
 use Rattle.hl_tree.specs.declared.call.Limits.{Limits}
@@ -12,7 +13,7 @@ use Rattle.hl_script.specs.declared.said.Said.{Said}
 use Rattle.hl_script.specs.declared.said.Said.TheVariants as said
 use Rattle.hl_script.specs.Spelling.{IsLine, spelling}
 use Rattle.hl_script.specs.Answer.{answer_line}
-use Rattle.hl_script.specs.Input.{lines_of, line_of, beyond, longest}
+use Rattle.hl_script.specs.Input.{is_newline, lines_of, line_of, beyond, longest}
 use Rattle.highlight.specs.Served.{is_served}
 use Rattle.highlight.specs.declared.end.End.{End}
 use Rattle.highlight.specs.declared.end.End.TheVariants.{Finished, BadLine, Output, Input, Memory, TooLong}
@@ -61,6 +62,11 @@ ArePlain limits opening done = (j : ℕ) → IfSome (slice_get done j) (IsPlain 
 -- the answers of these lines, each a line of its own
 abbrev pub answers : List DoneLine → List ℕ
 answers done = flat_map (λ d. answer_line d.answer) done
+
+-- how many whole lines these bytes are: as many as they have newlines
+abbrev pub whole_lines : List ℕ → ℕ
+whole_lines [] = 0
+whole_lines (b ∷ bytes) = if is_newline b then suc (whole_lines bytes) else whole_lines bytes
 
 -- the line of the number n is bad
 abbrev pub bad_text : ℕ → List ℕ
@@ -117,9 +123,25 @@ pub record Ran (limits : Limits) (limit : ℕ) (opening : Files) (input : List �
   pub said : text ≡ answers done ++ last
   pub ends : Ends limits limit opening input done rest last end
 
--- Where the input is known, a run over it begins with the root alone, and the machine says its text and does nothing else.
+-- What a machine has said by a moment, since another: the answers of as many lines as it has said whole, and some first
+-- part of what comes next. Its disk is as it was.
+pub record HasSaid (done : List DoneLine) (last : List ℕ) (first now : MachineState) : Type 0 where
+  pub text : List ℕ
+  pub part : List ℕ
+  pub said : now.said ≡ first.said ++ text
+  pub lines : text ≡ answers (take (whole_lines text) done) ++ part
+  pub within : IsPart text (answers done ++ last)
+  pub content : now.content ≡ first.content
+  pub pending : now.pending ≡ first.pending
+
+-- A run over the input: the machine says its text and does nothing else, as is heard at each moment since.
+abbrev pub RanBy : Limits → ℕ → Files → List ℕ → End → Option History → Option History → Type 0
+RanBy limits limit opening input end before now =
+    (text : List ℕ) × (ran : Ran limits limit opening input end text) × Says before now text × AtEachMomentSince before now (HasSaid ran.done ran.last)
+
+-- where the input is known, such a run over it begins with the root alone
 abbrev pub RanOver : Option (List ℕ) → Option History → Option History → End → Type 0
-RanOver left before now end = IfSome left (λ input. (text : List ℕ) × Ran file_limits input_limit root_alone input end text × Says before now text)
+RanOver left before now end = IfSome left (λ input. RanBy file_limits input_limit root_alone input end before now)
 
 -- ---- the statuses
 
