@@ -1,5 +1,5 @@
 -- A run, turn by turn.
-use Rattle.std.proofs.Common.{suc, zero, ◌≡◌, ◌≤◌, ◌+◌, ℕ, true, false, List, [], ◌∷◌, ◌++◌, length, map, Some, None, Ok, Err, Option, refl, sym, ap, subst, ◌∙◌, arith, append_assoc, append-nil, length-append}
+use Rattle.std.proofs.Common.{suc, zero, ◌≡◌, ◌≤◌, ◌+◌, ℕ, true, false, List, [], ◌∷◌, ◌++◌, length, map, Some, None, Ok, Err, Option, refl, sym, ap, subst, ◌∙◌, arith, append_assoc, append-nil, length-append, inl, inr}
 use Rattle.std.specs.Prelude.{IfSome, All}
 use Rattle.std.specs.Io.KnownBytes.{prepend_known}
 use Rattle.hl_media.specs.History.{History}
@@ -85,13 +85,13 @@ module _ (limits : Limits) (opening : Files) where
   )
 
   -- a turn that did a line
-  pub stands_more : (input rest left : Option (List ℕ)) (n : ℕ) (old new : Ahead) (files files' : Plain) (start now next : Option History)
+  pub stands_more : (Cut : Type 0) (input rest left : Option (List ℕ)) (n : ℕ) (old new : Ahead) (files files' : Plain) (start now next : Option History)
       → Stands limits opening input rest n old.used files start now
-      → IfSome rest (λ bytes. Turns n old new files files' bytes left now next (Ok true))
+      → IfSome rest (λ bytes. Turns Cut n old new files files' bytes left now next (Ok true))
       → Stands limits opening input left (n + 1) new.used files' start next
-  stands_more None rest left n old new files files' start now next s t = tt
-  stands_more (Some input) None left n old new files files' start now next s t = absurd s
-  stands_more (Some input) (Some rest) left n old new files files' start now next s t =
+  stands_more Cut None rest left n old new files files' start now next s t = tt
+  stands_more Cut (Some input) None left n old new files files' start now next s t = absurd s
+  stands_more Cut (Some input) (Some rest) left n old new files files' start now next s t =
       let has = s.1 in
       let d = t.0 in
       let first = t.1 in
@@ -118,66 +118,71 @@ module _ (limits : Limits) (opening : Files) where
   -- ---- the end
 
   -- why a run ends, from its last turn
-  ends_from_turn : (limit : ℕ) (input rest : List ℕ) (n : ℕ) (old new : Ahead) (files files' : Plain) (text : List ℕ) (left : Option (List ℕ))
+  ends_from_turn : (Failed Cut : Type 0) → (Failed → Cut) → (limit : ℕ) (input rest : List ℕ) (n : ℕ) (old new : Ahead) (files files' : Plain) (text : List ℕ) (left : Option (List ℕ))
       (now next : Option History) (end : End)
       → (has : HasDone limits opening input rest n old.used files text) → old.limit ≡ limit
-      → Turns n old new files files' rest left now next (Err end)
-      → (last : List ℕ) × Ends limits limit opening input has.done rest last end × Says now next last
-  ends_from_turn limit input rest n old new files files' text left now next Finished has same t = absurd t
-  ends_from_turn limit input rest n old new files files' text left now next BadLine has same t =
+      → Turns Failed n old new files files' rest left now next (Err end)
+      → (last : List ℕ) × Ends Cut limits limit opening input has.done rest last end × Says now next last
+  ends_from_turn Failed Cut causes limit input rest n old new files files' text left now next Finished has same t = absurd t
+  ends_from_turn Failed Cut causes limit input rest n old new files files' text left now next BadLine has same t =
       let within = subst (λ (k : ℕ). KeepsLimits k (old.used + length rest) rest) same t.3 in
-      (t.4.part, (t.0, t.1, t.2, subst (λ (k : ℕ). KeepsLimits limit k rest) has.size within, (t.4.rest, ap bad_text has.number ∙ t.4.cut)), t.4.says)
-  ends_from_turn limit input rest n old new files files' text left now next Output has same t =
+      let kept = subst (λ (k : ℕ). KeepsLimits limit k rest) has.size within in
+      let number = ap bad_text has.number in
+      elim t.4 [
+        | inl says ↦ (bad_text n, (t.0, t.1, t.2, kept, inl (sym number)), says)
+        | inr some ↦ (some.1.part, (t.0, t.1, t.2, kept, inr (causes some.0, (some.1.rest, number ∙ some.1.cut))), some.1.says)
+      ]
+  ends_from_turn Failed Cut causes limit input rest n old new files files' text left now next Output has same t =
       let d = t.0 in
       let does = subst (λ (f : Plain). Does f d.line d.answer files') has.files_are t.2 in
       let both = done_plain (record { limits = limits; tree = tree_after limits opening has.done }) files' d.line d.answer does in
       let within = subst (λ (k : ℕ). KeepsLimits k (old.used + length rest) rest) same t.1.within in (
-        t.3.part,
-        (d, t.1.first, t.1.good, subst (λ (k : ℕ). KeepsLimits limit k rest) has.size within, both.0, (t.3.rest, t.3.cut)),
-        t.3.says,
+        t.4.part,
+        (d, t.1.first, t.1.good, subst (λ (k : ℕ). KeepsLimits limit k rest) has.size within, both.0, causes t.3, (t.4.rest, t.4.cut)),
+        t.4.says,
       )
-  ends_from_turn limit input rest n old new files files' text left now next Input has same t = ([], refl, t)
-  ends_from_turn limit input rest n old new files files' text left now next Memory has same t = ([], refl, t)
-  ends_from_turn limit input rest n old new files files' text left now next TooLong has same t =
+  ends_from_turn Failed Cut causes limit input rest n old new files files' text left now next Input has same t = ([], refl, t)
+  ends_from_turn Failed Cut causes limit input rest n old new files files' text left now next Memory has same t = ([], refl, t)
+  ends_from_turn Failed Cut causes limit input rest n old new files files' text left now next TooLong has same t =
       let past = subst (λ (k : ℕ). PassesLimit k (old.used + length rest) rest) same t.0 in
       ([], (subst (λ (k : ℕ). PassesLimit limit k rest) has.size past, refl), t.1)
 
-  ran_by : (limit : ℕ) (input : List ℕ) (end : End) (text : List ℕ) (before now : Option History) → Ran limits limit opening input end text → Says before now text
-      → RanBy limits limit opening input end before now
-  ran_by limit input end text before now ran says = (text, ran, says, heard ran.done ran.last before now text ran.said says)
+  ran_by : (Cut : Type 0) (limit : ℕ) (input : List ℕ) (end : End) (text : List ℕ) (before now : Option History) → Ran Cut limits limit opening input end text → Says before now text
+      → RanBy Cut limits limit opening input end before now
+  ran_by Cut limit input end text before now ran says = (text, ran, says, heard ran.done ran.last before now text ran.said says)
 
-  pub ran_from_turn : (limit : ℕ) (input rest left : Option (List ℕ)) (n : ℕ) (old new : Ahead) (files files' : Plain) (start now next : Option History) (end : End)
+  pub ran_from_turn : (Failed Cut : Type 0) → (Failed → Cut) → (limit : ℕ) (input rest left : Option (List ℕ)) (n : ℕ) (old new : Ahead) (files files' : Plain) (start now next : Option History) (end : End)
       → old.limit ≡ limit
       → Stands limits opening input rest n old.used files start now
-      → IfSome rest (λ bytes. Turns n old new files files' bytes left now next (Err end))
-      → IfSome input (λ bytes. RanBy limits limit opening bytes end start next)
-  ran_from_turn limit None rest left n old new files files' start now next end same s t = tt
-  ran_from_turn limit (Some input) None left n old new files files' start now next end same s t = absurd s
-  ran_from_turn limit (Some input) (Some rest) left n old new files files' start now next end same s t =
+      → IfSome rest (λ bytes. Turns Failed n old new files files' bytes left now next (Err end))
+      → IfSome input (λ bytes. RanBy Cut limits limit opening bytes end start next)
+  ran_from_turn Failed Cut causes limit None rest left n old new files files' start now next end same s t = tt
+  ran_from_turn Failed Cut causes limit (Some input) None left n old new files files' start now next end same s t = absurd s
+  ran_from_turn Failed Cut causes limit (Some input) (Some rest) left n old new files files' start now next end same s t =
       let has = s.1 in
-      let ends = ends_from_turn limit input rest n old new files files' s.0 left now next end has same t in
-      ran_by limit input end (s.0 ++ ends.0) start next
+      let ends = ends_from_turn Failed Cut causes limit input rest n old new files files' s.0 left now next end has same t in
+      ran_by Cut limit input end (s.0 ++ ends.0) start next
       (record { done = has.done; rest = rest; last = ends.0; cut = has.cut; good = has.good; plain = has.plain; said = ap (λ l. l ++ ends.0) has.said; ends = ends.1 })
       (says_more start now next s.0 ends.0 s.2 ends.2)
 
-  pub ran_to_the_end : (limit : ℕ) (input rest left : Option (List ℕ)) (n : ℕ) (old new : Ahead) (files files' : Plain) (start now next : Option History)
+  pub ran_to_the_end : (Failed Cut : Type 0) (limit : ℕ) (input rest left : Option (List ℕ)) (n : ℕ) (old new : Ahead) (files files' : Plain) (start now next : Option History)
       → old.used ≤ limit
       → Stands limits opening input rest n old.used files start now
-      → IfSome rest (λ bytes. Turns n old new files files' bytes left now next (Ok false))
-      → IfSome input (λ bytes. RanBy limits limit opening bytes Finished start next)
-  ran_to_the_end limit None rest left n old new files files' start now next fits s t = tt
-  ran_to_the_end limit (Some input) None left n old new files files' start now next fits s t = absurd s
-  ran_to_the_end limit (Some input) (Some rest) left n old new files files' start now next fits s t =
+      → IfSome rest (λ bytes. Turns Failed n old new files files' bytes left now next (Ok false))
+      → IfSome input (λ bytes. RanBy Cut limits limit opening bytes Finished start next)
+  ran_to_the_end Failed Cut limit None rest left n old new files files' start now next fits s t = tt
+  ran_to_the_end Failed Cut limit (Some input) None left n old new files files' start now next fits s t = absurd s
+  ran_to_the_end Failed Cut limit (Some input) (Some rest) left n old new files files' start now next fits s t =
       let has = s.1 in
       let none : length rest ≡ 0 = ap length t.0 in
       let size = has.size in
-      ran_by limit input Finished (s.0 ++ []) start next
+      ran_by Cut limit input Finished (s.0 ++ []) start next
       (record { done = has.done; rest = rest; last = []; cut = has.cut; good = has.good; plain = has.plain; said = ap (λ l. l ++ []) has.said; ends = (t.0, omega arith, refl) })
       (says_more start now next s.0 [] s.2 t.1)
 
   -- a run that ends before its first line
-  pub ran_not_at_all : (limit : ℕ) (input : Option (List ℕ)) (start : Option History) → IfSome input (λ bytes. RanBy limits limit opening bytes Memory start start)
-  ran_not_at_all limit None start = tt
-  ran_not_at_all limit (Some input) start = ran_by limit input Memory [] start start
+  pub ran_not_at_all : (Cut : Type 0) (limit : ℕ) (input : Option (List ℕ)) (start : Option History) → IfSome input (λ bytes. RanBy Cut limits limit opening bytes Memory start start)
+  ran_not_at_all Cut limit None start = tt
+  ran_not_at_all Cut limit (Some input) start = ran_by Cut limit input Memory [] start start
       (record { done = []; rest = input; last = []; cut = refl; good = All-nil (λ d. IsGood d.line); plain = λ j. tt; said = refl; ends = refl })
       (says_nothing start)

@@ -99,21 +99,22 @@ pub record KeepsLimits (limit size : ℕ) (rest : List ℕ) : Type 0 where
 
 -- ---- the end
 
--- Why a run ends, with what is left of the input and what is said behind the answers of the lines done.
-abbrev pub Ends : Limits → ℕ → Files → List ℕ → List DoneLine → List ℕ → List ℕ → End → Type 0
-Ends limits limit opening input done rest last Finished = (rest ≡ []) × (length input ≤ limit) × (last ≡ [])
-Ends limits limit opening input done rest last BadLine =
+-- Why a run ends, with what is left of the input and what is said behind the answers of the lines done. What is said
+-- is cut short only where saying failed, of which Cut is the cause.
+abbrev pub Ends : Type 0 → Limits → ℕ → Files → List ℕ → List DoneLine → List ℕ → List ℕ → End → Type 0
+Ends Cut limits limit opening input done rest last Finished = (rest ≡ []) × (length input ≤ limit) × (last ≡ [])
+Ends Cut limits limit opening input done rest last BadLine =
     (bytes : List ℕ) × (lines_of rest ≡ bytes ∷ lines_of (beyond rest)) × IsBad bytes × KeepsLimits limit (length input) rest
-    × IsPart last (bad_text (length done + 1))
-Ends limits limit opening input done rest last Output =
+    × ((last ≡ bad_text (length done + 1)) ⊎ (Cut × IsPart last (bad_text (length done + 1))))
+Ends Cut limits limit opening input done rest last Output =
     (d : DoneLine) × (lines_of rest ≡ spelling d.line ∷ lines_of (beyond rest)) × IsGood d.line × KeepsLimits limit (length input) rest
-    × IsPlain limits (tree_after limits opening done) d × IsPart last (answer_line d.answer)
-Ends limits limit opening input done rest last Input = last ≡ []
-Ends limits limit opening input done rest last Memory = last ≡ []
-Ends limits limit opening input done rest last TooLong = PassesLimit limit (length input) rest × (last ≡ [])
+    × IsPlain limits (tree_after limits opening done) d × Cut × IsPart last (answer_line d.answer)
+Ends Cut limits limit opening input done rest last Input = last ≡ []
+Ends Cut limits limit opening input done rest last Memory = last ≡ []
+Ends Cut limits limit opening input done rest last TooLong = PassesLimit limit (length input) rest × (last ≡ [])
 
 -- A run over an input: lines are done and answered one after another, and then it ends.
-pub record Ran (limits : Limits) (limit : ℕ) (opening : Files) (input : List ℕ) (end : End) (text : List ℕ) : Type 0 where
+pub record Ran (Cut : Type 0) (limits : Limits) (limit : ℕ) (opening : Files) (input : List ℕ) (end : End) (text : List ℕ) : Type 0 where
   pub done : List DoneLine
   pub rest : List ℕ
   pub last : List ℕ
@@ -121,7 +122,7 @@ pub record Ran (limits : Limits) (limit : ℕ) (opening : Files) (input : List �
   pub good : All (λ d. IsGood d.line) done
   pub plain : ArePlain limits opening done
   pub said : text ≡ answers done ++ last
-  pub ends : Ends limits limit opening input done rest last end
+  pub ends : Ends Cut limits limit opening input done rest last end
 
 -- What a machine has said by a moment, since another: the answers of as many lines as it has said whole, and some first
 -- part of what comes next. Its disk is as it was.
@@ -135,13 +136,13 @@ pub record HasSaid (done : List DoneLine) (last : List ℕ) (first now : Machine
   pub pending : now.pending ≡ first.pending
 
 -- A run over the input: the machine says its text and does nothing else, as is heard at each moment since.
-abbrev pub RanBy : Limits → ℕ → Files → List ℕ → End → Option History → Option History → Type 0
-RanBy limits limit opening input end before now =
-    (text : List ℕ) × (ran : Ran limits limit opening input end text) × Says before now text × AtEachMomentSince before now (HasSaid ran.done ran.last)
+abbrev pub RanBy : Type 0 → Limits → ℕ → Files → List ℕ → End → Option History → Option History → Type 0
+RanBy Cut limits limit opening input end before now =
+    (text : List ℕ) × (ran : Ran Cut limits limit opening input end text) × Says before now text × AtEachMomentSince before now (HasSaid ran.done ran.last)
 
 -- where the input is known, such a run over it begins with the root alone
-abbrev pub RanOver : Option (List ℕ) → Option History → Option History → End → Type 0
-RanOver left before now end = IfSome left (λ input. RanBy file_limits input_limit root_alone input end before now)
+abbrev pub RanOver : Type 0 → Option (List ℕ) → Option History → Option History → End → Type 0
+RanOver Cut left before now end = IfSome left (λ input. RanBy Cut file_limits input_limit root_alone input end before now)
 
 -- ---- the statuses
 

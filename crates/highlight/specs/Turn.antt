@@ -1,5 +1,5 @@
 -- One turn of a run.
-use Rattle.std.specs.Prelude.{◌≡◌, ℕ, ◌+◌, Bool, true, false, IsTrue, List, [], ◌∷◌, length, Option, Some, Result, Ok, Err}
+use Rattle.std.specs.Prelude.{◌≡◌, ◌⊎◌, ℕ, ◌+◌, Bool, true, false, IsTrue, List, [], ◌∷◌, length, Option, Some, Result, Ok, Err}
 use Rattle.hl_media.specs.History.{History}
 use Rattle.hl_media.specs.Saying.{Says, SaysSome}
 use Rattle.hl_tree.specs.PlainValue.{Plain}
@@ -29,17 +29,21 @@ pub record IsFirstLine (limit used : ℕ) (bytes : List ℕ) (line : Line) : Typ
   pub good : IsGood line
   pub within : KeepsLimits limit (used + length bytes) bytes
 
+-- the whole text is said, or saying failed, and some first part of it
+abbrev pub SaysOrFails : Type 0 → Option History → Option History → List ℕ → Type 0
+SaysOrFails Cut before now text = Says before now text ⊎ (Cut × SaysSome before now text)
+
 -- What a turn does to the bytes that are left, to the files and to what is said.
-abbrev pub Turns : ℕ → Ahead → Ahead → Plain → Plain → List ℕ → Option (List ℕ) → Option History → Option History → Result Bool End → Type 0
-Turns n old new files files' bytes left before now (Ok true) =
+abbrev pub Turns : Type 0 → ℕ → Ahead → Ahead → Plain → Plain → List ℕ → Option (List ℕ) → Option History → Option History → Result Bool End → Type 0
+Turns Cut n old new files files' bytes left before now (Ok true) =
     (d : DoneLine) × IsFirstLine old.limit old.used bytes d.line × (left ≡ Some (beyond bytes)) × (new.used + length (beyond bytes) ≡ old.used + length bytes)
     × Does files d.line d.answer files' × Says before now (answer_line d.answer)
-Turns n old new files files' bytes left before now (Ok false) = (bytes ≡ []) × Says before now []
-Turns n old new files files' bytes left before now (Err BadLine) =
-    (text : List ℕ) × (lines_of bytes ≡ text ∷ lines_of (beyond bytes)) × IsBad text × KeepsLimits old.limit (old.used + length bytes) bytes × SaysSome before now (bad_text n)
-Turns n old new files files' bytes left before now (Err Output) =
-    (d : DoneLine) × IsFirstLine old.limit old.used bytes d.line × Does files d.line d.answer files' × SaysSome before now (answer_line d.answer)
-Turns n old new files files' bytes left before now (Err Input) = Says before now []
-Turns n old new files files' bytes left before now (Err Memory) = Says before now []
-Turns n old new files files' bytes left before now (Err TooLong) = PassesLimit old.limit (old.used + length bytes) bytes × Says before now []
-Turns n old new files files' bytes left before now (Err Finished) = ⊥
+Turns Cut n old new files files' bytes left before now (Ok false) = (bytes ≡ []) × Says before now []
+Turns Cut n old new files files' bytes left before now (Err BadLine) =
+    (text : List ℕ) × (lines_of bytes ≡ text ∷ lines_of (beyond bytes)) × IsBad text × KeepsLimits old.limit (old.used + length bytes) bytes × SaysOrFails Cut before now (bad_text n)
+Turns Cut n old new files files' bytes left before now (Err Output) =
+    (d : DoneLine) × IsFirstLine old.limit old.used bytes d.line × Does files d.line d.answer files' × Cut × SaysSome before now (answer_line d.answer)
+Turns Cut n old new files files' bytes left before now (Err Input) = Says before now []
+Turns Cut n old new files files' bytes left before now (Err Memory) = Says before now []
+Turns Cut n old new files files' bytes left before now (Err TooLong) = PassesLimit old.limit (old.used + length bytes) bytes × Says before now []
+Turns Cut n old new files files' bytes left before now (Err Finished) = ⊥

@@ -2,7 +2,8 @@
 
 ghost use Rattle.std.specs.Prelude.{◌≡◌, ◌↔◌, ◌≤◌, map, string_bytes, IsTrue};
 ghost use Rattle.highlight.specs.Command.{IsRun, usage_text};
-ghost use Rattle.hl_media.specs.Saying.{SaysSome};
+ghost use Rattle.hl_media.specs.Causes.{Rose};
+ghost use Rattle.highlight.specs.Turn.{SaysOrFails};
 
 use hl_media::Machine;
 
@@ -21,7 +22,7 @@ pub fn is_run(words: &[String]) -> bool
 
 /// Says how the program is called, as far as that can be said.
 pub fn say_usage<M: Machine>(machine: &mut M)
-    ensures says { SaysSome (M.history machine.old) (M.history machine.new) usage_text }
+    ensures says { SaysOrFails (Rose (M.say_faults machine.old) (M.say_faults machine.new)) (M.history machine.old) (M.history machine.new) usage_text }
     ensures blocks { M.blocks machine.new ≡ M.blocks machine.old }
     ensures faults { M.faults machine.new ≡ M.faults machine.old }
     ensures write_faults { M.write_faults machine.new ≡ M.write_faults machine.old }

@@ -24,7 +24,7 @@ pub fn run<S: Source, M: Machine, C: Clock>(
     clock: &mut C,
 ) -> End
     requires { world.old.files ≡ record { limits = file_limits; tree = root_alone } }
-    ensures ran { RanOver (S.left input.old) (M.history world.old.machine) (M.history world.new.machine) result }
+    ensures ran { RanOver (Rose (M.say_faults world.old.machine) (M.say_faults world.new.machine)) (S.left input.old) (M.history world.old.machine) (M.history world.new.machine) result }
     ensures says { OnlySays (M.history world.old.machine) (M.history world.new.machine) }
     ensures blocks { M.blocks world.new.machine ≡ M.blocks world.old.machine }
     ensures faults { M.faults world.new.machine ≡ M.faults world.old.machine }

@@ -2,9 +2,10 @@
 
 ghost use Rattle.std.specs.Prelude.{◌≡◌, ◌↔◌, ◌≤◌, map, string_bytes};
 ghost use Rattle.hl_media.specs.Causes.{Rose};
-ghost use Rattle.hl_media.specs.Saying.{OnlySays, SaysSome};
+ghost use Rattle.hl_media.specs.Saying.{OnlySays};
 ghost use Rattle.highlight.specs.Command.{IsRun, usage_text};
 ghost use Rattle.highlight.specs.Run.{IsStatus, RanOver};
+ghost use Rattle.highlight.specs.Turn.{SaysOrFails};
 
 use crate::command::{is_run, say_usage};
 use crate::end::End;
@@ -38,15 +39,15 @@ pub fn highlight<S: Source, M: Machine, V: Volume, C: Clock>(
 ) -> Ended<M, V>
     // Which status comes.
     ensures usage { (result.status ≡ 2) ↔ (IsRun (map string_bytes words.now) → ⊥) }
-    ensures usage_said { result.status ≡ 2 → SaysSome (M.history machine) (M.history result.machine) usage_text }
-    ensures finished { result.status ≡ 0 → RanOver (S.left input.old) (M.history machine) (M.history result.machine) End.Finished }
-    ensures bad_line { result.status ≡ 3 → RanOver (S.left input.old) (M.history machine) (M.history result.machine) End.BadLine }
-    ensures output { result.status ≡ 6 → RanOver (S.left input.old) (M.history machine) (M.history result.machine) End.Output }
+    ensures usage_said { result.status ≡ 2 → SaysOrFails (Rose (M.say_faults machine) (M.say_faults result.machine)) (M.history machine) (M.history result.machine) usage_text }
+    ensures finished { result.status ≡ 0 → RanOver (Rose (M.say_faults machine) (M.say_faults result.machine)) (S.left input.old) (M.history machine) (M.history result.machine) End.Finished }
+    ensures bad_line { result.status ≡ 3 → RanOver (Rose (M.say_faults machine) (M.say_faults result.machine)) (S.left input.old) (M.history machine) (M.history result.machine) End.BadLine }
+    ensures output { result.status ≡ 6 → RanOver (Rose (M.say_faults machine) (M.say_faults result.machine)) (S.left input.old) (M.history machine) (M.history result.machine) End.Output }
     ensures output_cause { result.status ≡ 6 → Rose (M.say_faults machine) (M.say_faults result.machine) }
-    ensures input { result.status ≡ 7 → RanOver (S.left input.old) (M.history machine) (M.history result.machine) End.Input }
+    ensures input { result.status ≡ 7 → RanOver (Rose (M.say_faults machine) (M.say_faults result.machine)) (S.left input.old) (M.history machine) (M.history result.machine) End.Input }
     ensures input_cause { result.status ≡ 7 → Rose (S.faults input.old) (S.faults input.new) }
-    ensures memory { result.status ≡ 8 → RanOver (S.left input.old) (M.history machine) (M.history result.machine) End.Memory }
-    ensures too_long { result.status ≡ 10 → RanOver (S.left input.old) (M.history machine) (M.history result.machine) End.TooLong }
+    ensures memory { result.status ≡ 8 → RanOver (Rose (M.say_faults machine) (M.say_faults result.machine)) (S.left input.old) (M.history machine) (M.history result.machine) End.Memory }
+    ensures too_long { result.status ≡ 10 → RanOver (Rose (M.say_faults machine) (M.say_faults result.machine)) (S.left input.old) (M.history machine) (M.history result.machine) End.TooLong }
     ensures statuses { IsStatus result.status }
     // What becomes of the devices.
     ensures rack { result.rack ≡ rack }

@@ -3,10 +3,10 @@
 ghost use Rattle.std.specs.Prelude.{◌≡◌, ◌≤◌, ◌<◌, IsTrue, OnOk, OnErr, IfOk, IfSome, Err};
 ghost use Rattle.std.specs.Io.KnownBytes.{prepend_known};
 ghost use Rattle.hl_media.specs.Causes.{Rose};
-ghost use Rattle.hl_media.specs.Saying.{OnlySays, SaysSome};
+ghost use Rattle.hl_media.specs.Saying.{OnlySays};
 ghost use Rattle.hl_script.specs.declared.line.Line.{Line};
 ghost use Rattle.highlight.specs.Run.{IsBad, bad_text};
-ghost use Rattle.highlight.specs.Turn.{Answers, Turns};
+ghost use Rattle.highlight.specs.Turn.{Answers, SaysOrFails, Turns};
 
 use crate::end::End;
 use crate::served::is_served;
@@ -53,7 +53,8 @@ fn bad_line(alloc: Global, n: u64) -> Result<Vec<u8>, AllocError>
 
 /// Says which line is bad, as far as that can be said.
 fn say_bad<M: Machine>(alloc: Global, world: &mut World<M>, n: u64) -> Result<(), AllocError>
-    ensures ok { OnOk result (SaysSome (M.history world.old.machine) (M.history world.new.machine) (bad_text n)) }
+    ensures ok { OnOk result (SaysOrFails (Rose (M.say_faults world.old.machine) (M.say_faults world.new.machine))
+        (M.history world.old.machine) (M.history world.new.machine) (bad_text n)) }
     ensures err { OnErr result (M.history world.new.machine ≡ M.history world.old.machine) }
     ensures files { world.new.files ≡ world.old.files }
     ensures blocks { M.blocks world.new.machine ≡ M.blocks world.old.machine }
@@ -77,7 +78,7 @@ pub fn turn<S: Source, M: Machine, C: Clock>(
     n: u64,
 ) -> Result<bool, End>
     ensures turns { IfSome (prepend_known lines.old.held (S.left input.old)) (λ bytes.
-        Turns n lines.old lines.new world.old.files world.new.files bytes (prepend_known lines.new.held (S.left input.new))
+        Turns (Rose (M.say_faults world.old.machine) (M.say_faults world.new.machine)) n lines.old lines.new world.old.files world.new.files bytes (prepend_known lines.new.held (S.left input.new))
         (M.history world.old.machine) (M.history world.new.machine) result) }
     ensures says { OnlySays (M.history world.old.machine) (M.history world.new.machine) }
     ensures blocks { M.blocks world.new.machine ≡ M.blocks world.old.machine }

@@ -1,5 +1,6 @@
 use Rattle.std.proofs.Common.{◌<◌, ◌∙◌, [], refl, arith}
 use Rattle.std.specs.Io.KnownBytes.{prepend_known}
+use Rattle.hl_media.specs.Causes.{Rose}
 use Rattle.hl_media.proofs.Sayings.{says_nothing, only_says_more}
 use Rattle.hl_tree.specs.Tree.{root_alone}
 use Rattle.highlight.specs.Run.{file_limits}
@@ -22,7 +23,7 @@ turns-preserved g c =
       write_faults = r.write_faults ∙ i.write_faults;
       says = only_says_more _ _ _ i.says r.says;
       stands =
-          stands_more file_limits root_alone _ _ _ _ c.turns.lines c.turn.new.lines _ _ _ _ _ i.stands (rw c.in-Ok-true.field-0-test at r.turns);
+          stands_more file_limits root_alone (Rose (g.M.Machine.say_faults c.turns.world.machine) (g.M.Machine.say_faults c.turn.new.world.machine)) _ _ _ _ c.turns.lines c.turn.new.lines _ _ _ _ _ i.stands (rw c.in-Ok-true.field-0-test at r.turns);
     }
 
 pub turns-init : goal.turns-init
@@ -42,13 +43,13 @@ turns-init g c =
     }
 
 pub returns-in-Err-clause-ran : goal.returns-in-Err-clause-ran
-returns-in-Err-clause-ran g c = ran_not_at_all file_limits root_alone 4294967296 _ _
+returns-in-Err-clause-ran g c = ran_not_at_all file_limits root_alone _ 4294967296 _ _
 
 pub returns-in-Ok-false-clause-ran : goal.returns-in-Ok-false-clause-ran
 returns-in-Ok-false-clause-ran g c =
     let r = c.in-Ok-false.ensures in
     let i = c.turns.invariant in
-    ran_to_the_end file_limits root_alone 4294967296 _ (prepend_known c.turns.lines.held (g.S.Source.left c.turns.input))
+    ran_to_the_end file_limits root_alone (Rose (g.M.Machine.say_faults c.turns.world.machine) (g.M.Machine.say_faults c.turn.new.world.machine)) _ 4294967296 _ (prepend_known c.turns.lines.held (g.S.Source.left c.turns.input))
     (prepend_known c.turn.new.lines.held (g.S.Source.left c.turn.new.input)) c.turns.n c.turns.lines c.turn.new.lines
     c.turns.world.files c.turn.new.world.files _ _ _ i.counted i.stands (rw c.in-Ok-false.field-0-test at r.turns)
 
@@ -59,7 +60,7 @@ pub returns-in-Err-turn-clause-ran : goal.returns-in-Err-turn-clause-ran
 returns-in-Err-turn-clause-ran g c =
     let r = c.in-Err-turn.ensures in
     let i = c.turns.invariant in
-    ran_from_turn file_limits root_alone 4294967296 _ (prepend_known c.turns.lines.held (g.S.Source.left c.turns.input))
+    ran_from_turn file_limits root_alone (Rose (g.M.Machine.say_faults c.turns.world.machine) (g.M.Machine.say_faults c.turn.new.world.machine)) _ (λ rose. omega (arith, rose, i.output_later)) 4294967296 _ (prepend_known c.turns.lines.held (g.S.Source.left c.turns.input))
     (prepend_known c.turn.new.lines.held (g.S.Source.left c.turn.new.input)) c.turns.n c.turns.lines c.turn.new.lines
     c.turns.world.files c.turn.new.world.files _ _ _ c.in-Err-turn.end i.limit i.stands r.turns
 

@@ -1,0 +1,6 @@
+pub mod Laid
+pub mod EntryLemmas
+pub mod EntryBlocks
+pub mod BlockPlaces
+pub mod ReadBlocks
+pub mod TablesRead

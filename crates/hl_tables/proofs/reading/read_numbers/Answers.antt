@@ -1,0 +1,33 @@
+use Rattle.std.proofs.Common.{◌≡◌, ◌-◌, ◌+◌, ◌*◌, ◌∙◌, ℕ, List, length, refl, sym, ap, arith}
+use Rattle.hl_bytes.specs.Fields.{le32, u32_at}
+use Rattle.hl_bytes.proofs.RunLemmas.{length-le32}
+use Rattle.hl_bytes.specs.Runs.{run_bytes, run_at}
+use Rattle.hl_bytes.specs.Pages.{plain_page}
+use Rattle.hl_bytes.proofs.RunLemmas.{length-run_at}
+use Rattle.hl_tables.specs.TableBlocks.{in_blocks}
+use Rattle.hl_tables.proofs.ReadBlocks.{put_mid_is, block_read, block_again, number_again}
+use Rattle.hl_tables.proofs.reading.read_numbers.Goals as goal
+
+pub returns-then-spelled-clause-read : goal.returns-then-spelled-clause-read
+returns-then-spelled-clause-read c = λ t.
+    let xs = c.args.numbers.now in
+    let ys = c.copy_from_slice.new.self in
+    let from = 1024 * c.args.block in
+    let count = c.min-count.result in
+    let few = c.min-count.ensures in
+    let copied : ys ≡ c.numbers_in-spelled.new.out = c.copy_from_slice.ensures.after in
+    let size : length ys ≡ count = ap length (copied ∙ c.numbers_in-spelled.ensures.candidate) ∙ length-run_at u32_at 4 0 count c.args.bytes.now in
+    let k : from + count - from ≡ length ys = omega arith in
+    let page = c.numbers_in-spelled.ensures.spelled.0 t ∙ ap (λ (l : List ℕ). plain_page (run_bytes le32 l)) (sym copied) in
+    ap (λ (l : List ℕ). in_blocks (run_bytes le32 l)) (put_mid_is xs ys from (from + count - from) (sym k))
+    ∙ block_read le32 4 length-le32 xs ys c.args.bytes.now 1024 from c.args.block count size (omega (arith, few)) refl (omega arith) (omega (arith, c.requires)) c.requires.exists page
+
+pub returns-else-spelled-clause-grammar : goal.returns-else-spelled-clause-grammar
+returns-else-spelled-clause-grammar c = λ xs size is.
+    let from = 1024 * c.args.block in
+    let count = c.min-count.result in
+    let few = c.min-count.ensures in
+    let within = c.requires.exists in
+    let page = block_again le32 u32_at 4 length-le32 number_again xs c.args.bytes.now 1024 from c.args.block count (λ i. omega (arith, c.type_inv.bytes i)) c.requires.size (omega arith) refl (omega arith) (omega arith) (omega arith) (omega arith) is in
+    let read : c.numbers_in-spelled.new.out ≡ run_at u32_at 4 0 count c.args.bytes.now = c.numbers_in-spelled.ensures.candidate in
+    c.numbers_in-spelled.ensures.spelled.1 (page ∙ ap (λ (l : List ℕ). plain_page (run_bytes le32 l)) (sym read))

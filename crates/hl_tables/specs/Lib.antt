@@ -1,0 +1,5 @@
+pub mod Values
+pub mod Laying
+pub mod Lending
+pub mod Entries
+pub mod TableBlocks

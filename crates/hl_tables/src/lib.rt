@@ -1,0 +1,12 @@
+//! The tables of a site: where each inode lies, which log segments are used, what each slot holds
+//! and which volumes are full (`docs/FORMATS.md`, "Tables").
+#![tactic(auto)]
+
+mod entries;
+mod reading;
+mod tables;
+
+pub use tables::Tables;
+
+#[cfg(test)]
+mod tests;

@@ -1,0 +1,11 @@
+//! What each slot of the volumes holds, and which volumes are full.
+#![tactic(auto)]
+
+mod slot;
+mod table;
+
+pub use slot::Slot;
+pub use table::TsegTable;
+
+#[cfg(test)]
+mod tests;
