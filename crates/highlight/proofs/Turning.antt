@@ -152,17 +152,17 @@ module _ (limits : Limits) (opening : Files) where
   ran_by Cut limit input end text before now ran says = (text, ran, says, heard ran.done ran.last before now text ran.said says)
 
   pub ran_from_turn : (Failed Cut : Type 0) → (Failed → Cut) → (limit : ℕ) (input rest left : Option (List ℕ)) (n : ℕ) (old new : Ahead) (files files' : Plain) (start now next : Option History) (end : End)
-      → old.limit ≡ limit
+      → old.limit ≡ limit → old.used ≤ limit
       → Stands limits opening input rest n old.used files start now
       → IfSome rest (λ bytes. Turns Failed n old new files files' bytes left now next (Err end))
       → IfSome input (λ bytes. RanBy Cut limits limit opening bytes end start next)
-  ran_from_turn Failed Cut causes limit None rest left n old new files files' start now next end same s t = tt
-  ran_from_turn Failed Cut causes limit (Some input) None left n old new files files' start now next end same s t = absurd s
-  ran_from_turn Failed Cut causes limit (Some input) (Some rest) left n old new files files' start now next end same s t =
+  ran_from_turn Failed Cut causes limit None rest left n old new files files' start now next end same fits s t = tt
+  ran_from_turn Failed Cut causes limit (Some input) None left n old new files files' start now next end same fits s t = absurd s
+  ran_from_turn Failed Cut causes limit (Some input) (Some rest) left n old new files files' start now next end same fits s t =
       let has = s.1 in
       let ends = ends_from_turn Failed Cut causes limit input rest n old new files files' s.0 left now next end has same t in
       ran_by Cut limit input end (s.0 ++ ends.0) start next
-      (record { done = has.done; rest = rest; last = ends.0; cut = has.cut; good = has.good; plain = has.plain; said = ap (λ l. l ++ ends.0) has.said; ends = ends.1 })
+      (record { done = has.done; rest = rest; last = ends.0; cut = has.cut; within = (let size = has.size in omega arith); good = has.good; plain = has.plain; said = ap (λ l. l ++ ends.0) has.said; ends = ends.1 })
       (says_more start now next s.0 ends.0 s.2 ends.2)
 
   pub ran_to_the_end : (Failed Cut : Type 0) (limit : ℕ) (input rest left : Option (List ℕ)) (n : ℕ) (old new : Ahead) (files files' : Plain) (start now next : Option History)
@@ -177,12 +177,12 @@ module _ (limits : Limits) (opening : Files) where
       let none : length rest ≡ 0 = ap length t.0 in
       let size = has.size in
       ran_by Cut limit input Finished (s.0 ++ []) start next
-      (record { done = has.done; rest = rest; last = []; cut = has.cut; good = has.good; plain = has.plain; said = ap (λ l. l ++ []) has.said; ends = (t.0, omega arith, refl) })
+      (record { done = has.done; rest = rest; last = []; cut = has.cut; within = omega arith; good = has.good; plain = has.plain; said = ap (λ l. l ++ []) has.said; ends = (t.0, omega arith, refl) })
       (says_more start now next s.0 [] s.2 t.1)
 
   -- a run that ends before its first line
   pub ran_not_at_all : (Cut : Type 0) (limit : ℕ) (input : Option (List ℕ)) (start : Option History) → IfSome input (λ bytes. RanBy Cut limits limit opening bytes Memory start start)
   ran_not_at_all Cut limit None start = tt
   ran_not_at_all Cut limit (Some input) start = ran_by Cut limit input Memory [] start start
-      (record { done = []; rest = input; last = []; cut = refl; good = All-nil (λ d. IsGood d.line); plain = λ j. tt; said = refl; ends = refl })
+      (record { done = []; rest = input; last = []; cut = refl; within = omega arith; good = All-nil (λ d. IsGood d.line); plain = λ j. tt; said = refl; ends = refl })
       (says_nothing start)

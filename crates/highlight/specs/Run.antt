@@ -119,6 +119,7 @@ pub record Ran (Cut : Type 0) (limits : Limits) (limit : ℕ) (opening : Files) 
   pub rest : List ℕ
   pub last : List ℕ
   pub cut : lines_of input ≡ map (λ d. spelling d.line) done ++ lines_of rest
+  pub within : length input ≤ limit + length rest
   pub good : All (λ d. IsGood d.line) done
   pub plain : ArePlain limits opening done
   pub said : text ≡ answers done ++ last

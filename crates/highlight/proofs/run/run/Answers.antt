@@ -62,7 +62,7 @@ returns-in-Err-turn-clause-ran g c =
     let i = c.turns.invariant in
     ran_from_turn file_limits root_alone (Rose (g.M.Machine.say_faults c.turns.world.machine) (g.M.Machine.say_faults c.turn.new.world.machine)) _ (λ rose. omega (arith, rose, i.output_later)) 4294967296 _ (prepend_known c.turns.lines.held (g.S.Source.left c.turns.input))
     (prepend_known c.turn.new.lines.held (g.S.Source.left c.turn.new.input)) c.turns.n c.turns.lines c.turn.new.lines
-    c.turns.world.files c.turn.new.world.files _ _ _ c.in-Err-turn.end i.limit i.stands r.turns
+    c.turns.world.files c.turn.new.world.files _ _ _ c.in-Err-turn.end i.limit i.counted i.stands r.turns
 
 pub returns-in-Err-turn-clause-says : goal.returns-in-Err-turn-clause-says
 returns-in-Err-turn-clause-says g c = only_says_more _ _ _ c.turns.invariant.says c.in-Err-turn.ensures.says
