@@ -4,7 +4,8 @@ ghost use Rattle.hl_tree.specs.Contents.{resized, written};
 ghost use Rattle.hl_tree.specs.OtherContents.{node_map};
 
 use crate::List;
-use std::alloc::AllocError;
+use crate::list::Copied;
+use std::alloc::{AllocError, Global};
 
 /// What stands at a path: a directory, or a file with its content.
 #[derive(Drop)]
@@ -34,6 +35,15 @@ impl Node<List<u8>> {
         match self {
             Node::Dir => Ok(()),
             Node::File(content) => content.write(at, part),
+        }
+    }
+}
+
+impl<B: Copied> Copied for Node<B> {
+    fn copy(&self, alloc: Global) -> Result<Node<B>, AllocError> {
+        match self {
+            Node::Dir => Ok(Node::Dir),
+            Node::File(content) => Ok(Node::File(content.copy(alloc)?)),
         }
     }
 }

@@ -9,7 +9,7 @@ ghost use Rattle.hl_tree.specs.Tree.{root_alone, walk_to_parent, walk, content_a
 use crate::moving::move_rows;
 use crate::path::is_too_long;
 use crate::rows::{
-    Row, children_of, count_children, put_row, remove_row, resize_row, row_at, write_row,
+    Row, children_of, copy_rows, count_children, put_row, remove_row, resize_row, row_at, write_row,
 };
 use crate::{List, Node, Path, Refusal};
 use std::alloc::{AllocError, Global};
@@ -45,6 +45,21 @@ impl Nodes {
     {
         let mut rows = Vec::new(alloc);
         rows.push((Path::root(alloc), Node::Dir))?;
+        Ok(Nodes { rows })
+    }
+
+    /// The rows, in the order of their paths.
+    pub fn rows(&self) -> &[Row]
+        ensures { result.now ≡ map.entries self.now }
+    {
+        self.rows.as_slice()
+    }
+
+    /// Equal nodes.
+    pub fn copy(&self, alloc: Global) -> Result<Nodes, AllocError>
+        ensures { IfOk result (λ copy. copy ≡ self.now) }
+    {
+        let rows = copy_rows(alloc, self.rows.as_slice())?;
         Ok(Nodes { rows })
     }
 

@@ -1,5 +1,6 @@
 // The plain program of the file rules: a tree in memory, kept as plainly as can be.
-ghost use Rattle.std.specs.Prelude.{◌≡◌, ◌≢◌, IfOk, ◌≤◌, ◌&&◌, ℕ, Ok, Err, is_some};
+ghost use Rattle.std.specs.Prelude.{◌≡◌, ◌≢◌, IfOk, OnOk, OnErr, ◌<◌, ◌≤◌, ◌&&◌, ℕ, Ok, Err, is_some};
+ghost use Rattle.std.specs.Option.{option_copied};
 ghost use Rattle.std.specs.FinMap as map;
 ghost use Rattle.hl_tree.specs.declared.call.Reply.TheVariants as replies;
 ghost use Rattle.hl_tree.specs.declared.node.Node.TheVariants.{File};
@@ -55,6 +56,41 @@ impl PlainTree {
     {
         let nodes = Nodes::new(alloc)?;
         Ok(PlainTree { limits, nodes })
+    }
+
+    /// What stands at each path, in the order of paths, which are compared name by name; the root comes first.
+    pub fn rows(&self) -> &[(Path, Node<List<u8>>)]
+        ensures { result.now ≡ map.entries self.now.tree }
+    {
+        self.nodes.rows()
+    }
+
+    /// What stands at a path.
+    pub fn get(&self, path: &[List<u8>]) -> Option<&Node<List<u8>>>
+        ensures { option_copied result ≡ map.get self.now.tree path.now }
+    {
+        self.nodes.get(path)
+    }
+
+    /// Puts a node at a path, whatever stands there and whatever the file rules say: for one who makes a tree of what
+    /// was kept of it. Behind the last path it moves no other row.
+    pub fn put(&mut self, path: Path, node: Node<List<u8>>) -> Result<(), AllocError>
+        requires { map.len self.old.tree < self.old.limits.nodes }
+        ensures ok { OnOk result (self.new ≡ record self.old { tree = map.insert self.old.tree path node }) }
+        ensures err { OnErr result (self.new ≡ self.old) }
+    {
+        self.nodes.insert(path, node)
+    }
+
+    /// An equal tree: every byte of its files is copied.
+    pub fn copy(&self, alloc: Global) -> Result<PlainTree, AllocError>
+        ensures { IfOk result (λ copy. copy ≡ self.now) }
+    {
+        let nodes = self.nodes.copy(alloc)?;
+        Ok(PlainTree {
+            limits: self.limits,
+            nodes,
+        })
     }
 
     /// Makes a call: its reply, and the tree after it, by the file rules. A refused call leaves the tree.

@@ -107,6 +107,17 @@ pub fn write_row(
     }
 }
 
+/// Equal rows, in their order.
+pub fn copy_rows(alloc: Global, rows: &[Row]) -> Result<Vec<Row>, AllocError>
+    ensures { IfOk result (λ copies. copies.items ≡ rows.now) }
+{
+    let mut copies = Vec::with_capacity(alloc, rows.len())?;
+    for row in rows {
+        copies.push((row.0.copy(alloc)?, row.1.copy(alloc)?))?;
+    }
+    Ok(copies)
+}
+
 /// The names of the children of a path, in order of bytes.
 #[tactic(auto, using(crate::proofs::Children::children_more, crate::proofs::Children::children_same))]
 pub fn children_of(

@@ -200,8 +200,12 @@ fn long_names_are_refused_first(rt: HostRuntime) -> Result<(), Fail> {
     let to = long.copy(alloc)?;
     table.push((Call::Rmdir { path: long }, refused(Refusal::Enametoolong)))?;
     let from = path(alloc, b"/missing")?;
-    let both = Call::Rename { from, to };
-    table.push((both, refused(Refusal::Enametoolong)))?;
+    let second = Call::Rename { from, to };
+    table.push((second, refused(Refusal::Enametoolong)))?;
+    let from = long_path(alloc, 94, 10)?;
+    let to = path(alloc, b"/missing")?;
+    let first = Call::Rename { from, to };
+    table.push((first, refused(Refusal::Enametoolong)))?;
     Ok(run(&rt, alloc, 9, table.as_slice())?)
 }
 
