@@ -1,0 +1,9 @@
+pub mod Dumps
+pub mod Entries
+pub mod Sizes
+pub mod Steps
+pub mod Parsing
+pub mod Growing
+pub mod Found
+pub mod Longer
+pub mod Named
