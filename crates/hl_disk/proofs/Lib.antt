@@ -1,0 +1,13 @@
+pub mod RecordLemmas
+pub mod Places
+pub mod Settled
+pub mod Kept
+pub mod Stages
+pub mod Exits
+pub mod Root
+pub mod Founding
+pub mod Formatted
+pub mod More
+pub mod Once
+pub mod Reading
+pub mod FirstParts

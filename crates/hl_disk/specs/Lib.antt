@@ -1,0 +1,9 @@
+pub mod Records
+pub mod Disks
+pub mod Stops
+pub mod Formats
+pub mod Mounts
+pub mod Saves
+pub mod Packs
+pub mod Reads
+pub mod Parts
