@@ -1,5 +1,5 @@
 -- What each exit of a save leaves.
-use Rattle.std.proofs.Common.{◌≡◌, ⊎_elim, ℕ, ◌+◌, ◌-◌, ◌<◌, ◌^◌, true, List, ◌++◌, length, Option, Result, Ok, refl, sym, ◌∙◌, ap, subst}
+use Rattle.std.proofs.Common.{◌≡◌, ⊎_elim, ℕ, ◌+◌, ◌-◌, ◌<◌, ◌^◌, true, List, ◌++◌, length, Option, Result, Ok, sym, ◌∙◌, ap, subst}
 use Rattle.hl_media.specs.declared.failed.Failed.{Failed}
 use Rattle.hl_media.specs.History.{MachineState, DeviceCall, History, state_now, state_after, ended, with_calls, DidWrite}
 use Rattle.hl_media.specs.History.DeviceCall.{Write, Sync}
@@ -14,7 +14,7 @@ use Rattle.hl_disk.specs.Disks.{start_of}
 use Rattle.hl_disk.specs.Stops.{IsSettled}
 use Rattle.hl_disk.specs.Saves.{HasSaved, IsSaving}
 use Rattle.hl_disk.specs.Packs.{IsPacked}
-use Rattle.hl_disk.proofs.Stages.{s2, s4, at_start, during_dump, after_dump, staged, during_record, after_record, last, holds_last}
+use Rattle.hl_disk.proofs.Stages.{s2, at_start, during_dump, after_dump, staged, during_record, after_record, last, holds_last}
 
 -- the calls of a synced write
 abbrev pub calls_of : {before now : Option History} {at : ℕ} {bytes : List ℕ} {r : Result (Unit {0}) Failed} → AddsSyncedWrite before now at bytes r → List DeviceCall

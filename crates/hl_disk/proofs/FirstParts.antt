@@ -1,14 +1,14 @@
 -- The blocks that a disk is made of, as they are written.
-use Rattle.std.proofs.Common.{◌≡◌, ℕ, zero, suc, ◌*◌, ◌<◌, ◌≤◌, List, [], length, take, drop, get_or, replicate, refl, sym, ◌∙◌, ap, arith}
+use Rattle.std.proofs.Common.{◌≡◌, ℕ, zero, suc, ◌*◌, ◌≤◌, List, [], length, drop, get_or, replicate, refl, ◌∙◌, ap, arith}
 use Rattle.std.proofs.lemmas.List.{length-replicate}
 use Rattle.sha2.specs.Sha256.{sha256}
 use Rattle.hl_bytes.proofs.Seals.{length-sha256}
 use Rattle.hl_media.specs.History.{block_of}
 use Rattle.hl_super.specs.declared.label.Label.{Label}
-use Rattle.hl_super.specs.Labels.{IsLabel, label_bytes}
+use Rattle.hl_super.specs.Labels.{label_bytes}
 use Rattle.hl_disk.specs.declared.record.DumpRecord.{DumpRecord}
-use Rattle.hl_disk.specs.Records.{IsRecord, Spells, record_bytes}
-use Rattle.hl_disk.specs.Parts.{AreParts, first_record}
+use Rattle.hl_disk.specs.Records.{record_bytes}
+use Rattle.hl_disk.specs.Parts.{AreParts}
 use Rattle.hl_disk.proofs.RecordLemmas.{first_of_take}
 
 abbrev nothing : ℕ → List ℕ

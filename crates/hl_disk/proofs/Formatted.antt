@@ -1,19 +1,19 @@
 -- What each exit of making a disk leaves.
-use Rattle.std.proofs.Common.{◌≡◌, ⊎_elim, ℕ, zero, suc, ◌+◌, ◌*◌, ◌≤◌, true, false, T, List, [], ◌∷◌, ◌++◌, length, Option, Some, Result, Ok, Err, refl, sym, ◌∙◌, ap, subst}
+use Rattle.std.proofs.Common.{◌≡◌, ⊎_elim, ℕ, zero, suc, true, false, List, [], ◌∷◌, ◌++◌, Option, Some, Result, Ok, Err, refl, sym, ◌∙◌, ap, subst}
 use Rattle.std.specs.Prelude.{IsTrue}
 use Rattle.hl_media.specs.declared.failed.Failed.{Failed}
-use Rattle.hl_media.specs.History.{MachineState, DeviceCall, History, state_now, state_after, state_at, begun, ended, with_calls, DidWrite, DidSync}
-use Rattle.hl_media.specs.History.DeviceCall.{Read, Write, Sync, Say}
-use Rattle.hl_media.specs.Moments.{AtEach, Now, Runs, Ends}
+use Rattle.hl_media.specs.History.{MachineState, DeviceCall, History, state_now, state_after, state_at, ended, with_calls, DidWrite}
+use Rattle.hl_media.specs.History.DeviceCall.{Write, Sync}
+use Rattle.hl_media.specs.Moments.{AtEach, Now, Runs}
 use Rattle.hl_media.specs.Synced.{AddsSyncedWrite}
 use Rattle.hl_media.proofs.Runs.{AtEach-at, AtEach-append, state_after-append, with_more, now_from, goes_on, ends_of_run}
 use Rattle.hl_media.proofs.SyncedWrites.{each_synced_write}
 use Rattle.hl_tree.specs.Tree.{root_alone}
 use Rattle.hl_disk.specs.Stops.{StopLeaves, IsSettled}
-use Rattle.hl_disk.specs.Formats.{is_good_sync, has_synced, IsNew, Formats}
+use Rattle.hl_disk.specs.Formats.{has_synced, IsNew, Formats}
 use Rattle.hl_disk.specs.Parts.{AreParts}
 use Rattle.hl_disk.proofs.Exits.{after_synced, two_writes}
-use Rattle.hl_disk.proofs.Founding.{Q, cleared, recorded, made, at_cleared, during_record, after_record, at_recorded, during_label, after_label, at_made, settled}
+use Rattle.hl_disk.proofs.Founding.{Q, cleared, recorded, at_cleared, during_record, after_record, at_recorded, during_label, after_label, at_made, settled}
 
 -- a single write has no sync
 no_sync : (at : ℕ) (bytes after : List ℕ) (m : ℕ) → IsTrue (has_synced (Write at bytes after ∷ []) m) → ⊥

@@ -1,18 +1,16 @@
 -- What a stop leaves in each stage of making a disk.
-use Rattle.std.proofs.Common.{◌≡◌, ◌≢◌, ◌⊎◌, inl, inr, ⊎_elim, ℕ, ◌+◌, ◌-◌, ◌/◌, ◌<◌, ◌≤◌, true, List, [], ◌∷◌, ◌++◌, length, take, get_or, Result, refl, sym, ◌∙◌, ap, subst, arith, lit≤}
-use Rattle.std.proofs.lemmas.Bool.{cases_lt}
-use Rattle.sha2.specs.Sha256.{sha256}
+use Rattle.std.proofs.Common.{◌≡◌, ◌⊎◌, inl, inr, ⊎_elim, ℕ, ◌+◌, ◌-◌, ◌/◌, ◌<◌, ◌≤◌, true, List, [], length, get_or, refl, sym, ◌∙◌, ap, subst, arith, lit≤}
 use Rattle.hl_bytes.specs.Fields.{le32}
 use Rattle.hl_bytes.proofs.PageLemmas.{take-page}
-use Rattle.hl_media.specs.History.{Image, overwritten, block_of, MachineState, begun, ended}
+use Rattle.hl_media.specs.History.{Image, block_of, MachineState, begun, ended}
 use Rattle.hl_media.specs.History.DeviceCall.{Write, Sync}
 use Rattle.hl_media.proofs.Images.{overwritten_in, overwritten_out, block_of_one}
 use Rattle.hl_super.specs.declared.label.Label.{Label}
 use Rattle.hl_super.specs.Labels as labels
 use Rattle.hl_tree.specs.Tree.{root_alone}
 use Rattle.hl_disk.specs.declared.record.DumpRecord.{DumpRecord}
-use Rattle.hl_disk.specs.Records.{place_of, Spells}
-use Rattle.hl_disk.specs.Disks.{Stands, Checks, HasLabel, Holds}
+use Rattle.hl_disk.specs.Records.{Spells}
+use Rattle.hl_disk.specs.Disks.{HasLabel, Holds}
 use Rattle.hl_disk.specs.Stops.{StopLeaves, IsSettled}
 use Rattle.hl_disk.specs.Formats.{IsNew}
 use Rattle.hl_disk.specs.Parts.{AreParts, first_record}

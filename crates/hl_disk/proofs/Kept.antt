@@ -1,7 +1,7 @@
 -- When another image holds the same tree.
-use Rattle.std.proofs.Common.{◌≡◌, ℕ, ◌+◌, ◌/◌, ◌<◌, ◌≤◌, List, length, take, refl, sym, ◌∙◌, ap, subst, arith}
+use Rattle.std.proofs.Common.{◌≡◌, ℕ, ◌+◌, ◌<◌, ◌≤◌, List, length, take, sym, ap, subst, arith}
 use Rattle.sha2.specs.Sha256.{sha256}
-use Rattle.hl_media.specs.History.{Image, area}
+use Rattle.hl_media.specs.History.{Image}
 use Rattle.hl_media.proofs.Images.{area_same}
 use Rattle.hl_super.specs.Labels as labels
 use Rattle.hl_tree.specs.Rules.{Files}

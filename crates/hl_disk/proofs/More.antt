@@ -1,13 +1,12 @@
 -- Making a disk, and then calls that leave it as it is.
-use Rattle.std.proofs.Common.{◌≡◌, ⊎_elim, inl, inr, ℕ, zero, suc, ◌+◌, ◌-◌, ◌*◌, ◌<◌, ◌≤◌, true, false, List, [], ◌∷◌, ◌++◌, length, Option, refl, sym, ◌∙◌, ap, subst, arith}
+use Rattle.std.proofs.Common.{◌≡◌, inl, inr, ℕ, zero, suc, ◌+◌, ◌-◌, ◌*◌, ◌≤◌, true, false, List, [], ◌∷◌, ◌++◌, length, Option, refl, sym, ◌∙◌, ap, subst, arith}
 use Rattle.std.specs.Prelude.{IsTrue}
 use Rattle.std.proofs.lemmas.Bool.{cases_lt}
-use Rattle.hl_media.specs.History.{Image, MachineState, DeviceCall, History, state_now, state_after, state_at, with_calls}
+use Rattle.hl_media.specs.History.{MachineState, DeviceCall, History, state_now, state_at, with_calls}
 use Rattle.hl_media.specs.History.DeviceCall.{Read, Write, Sync, Say}
 use Rattle.hl_media.specs.Moments.{AtEach, Now, Runs}
 use Rattle.hl_media.proofs.Runs.{AtEach-at, state_at-before, state_at-since, with_more, now_is}
 use Rattle.hl_tree.specs.Tree.{root_alone}
-use Rattle.hl_disk.specs.Disks.{Holds}
 use Rattle.hl_disk.specs.Stops.{StopLeaves, IsSettled}
 use Rattle.hl_disk.specs.Formats.{has_synced, IsNew, Formats}
 use Rattle.hl_disk.proofs.Settled.{settled_leaves}

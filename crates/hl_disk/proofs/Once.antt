@@ -1,5 +1,5 @@
 -- An image stands for one tree.
-use Rattle.std.proofs.Common.{◌≡◌, ℕ, ◌≤◌, List, sym, ◌∙◌, ap, subst, arith}
+use Rattle.std.proofs.Common.{◌≡◌, ℕ, ◌≤◌, sym, subst, arith}
 use Rattle.hl_media.specs.History.{Image}
 use Rattle.hl_tree.specs.Rules.{Files}
 use Rattle.hl_dump.specs.Dumps.{IsDump}

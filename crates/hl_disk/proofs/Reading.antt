@@ -1,10 +1,10 @@
 -- How the parts of a mount are put together.
-use Rattle.std.proofs.Common.{◌≡◌, ◌≢◌, ◌⊎◌, ◌↔◌, inl, inr, ⊎_elim, ℕ, ◌+◌, ◌*◌, ◌/◌, ◌<◌, ◌≤◌, List, ◌++◌, length, take, Option, Some, None, Result, Ok, Err, refl, sym, ◌∙◌, ap, subst, arith}
+use Rattle.std.proofs.Common.{◌≡◌, ◌↔◌, inl, inr, ⊎_elim, ℕ, ◌+◌, ◌*◌, List, ◌++◌, length, Option, Some, None, Result, Ok, Err, refl, sym, ◌∙◌, ap, subst, arith}
 use Rattle.std.specs.Prelude.{IsNone, IsTrue, IfSome, is_some}
 use Rattle.std.specs.Option.{ForSome}
 use Rattle.std.proofs.lemmas.Bool.{cases_eq}
 use Rattle.sha2.specs.Sha256.{sha256}
-use Rattle.hl_media.specs.History.{Image, MachineState, History, HoldsAt, area, block_of, content, state_now, with_calls}
+use Rattle.hl_media.specs.History.{Image, MachineState, History, HoldsAt, area, content, state_now, with_calls}
 use Rattle.hl_media.proofs.Images.{area_holds, block_of_one}
 use Rattle.hl_media.proofs.Runs.{goes_on, ends_of_run}
 use Rattle.hl_super.specs.declared.label.Label.{Label}
@@ -12,14 +12,14 @@ use Rattle.hl_super.specs.Labels as labels
 use Rattle.hl_tree.specs.declared.call.Limits.{Limits}
 use Rattle.hl_tree.specs.PlainValue.{Plain}
 use Rattle.hl_tree.specs.Rules.{Files}
-use Rattle.hl_dump.specs.Dumps.{IsDump, HasDump, dump_limits}
+use Rattle.hl_dump.specs.Dumps.{IsDump, dump_limits}
 use Rattle.hl_disk.specs.declared.mounting.Mounted.{Mounted}
 use Rattle.hl_disk.specs.declared.mounting.MountError.{MountError}
 use Rattle.hl_disk.specs.declared.mounting.MountError.TheVariants.{NoLabel, NoRecord, DiskFault, Memory}
 use Rattle.hl_disk.specs.declared.record.DumpRecord.{DumpRecord}
-use Rattle.hl_disk.specs.Disks.{HasLabel, Stands, Checks, StandsFor, dump_at}
+use Rattle.hl_disk.specs.Disks.{HasLabel, Stands, Checks, dump_at}
 use Rattle.hl_disk.specs.Mounts.{Mounts}
-use Rattle.hl_disk.specs.Records.{place_of, Spells}
+use Rattle.hl_disk.specs.Records.{Spells}
 use Rattle.hl_disk.specs.Reads.{OnlyReads, FindsRecord, IsDumpOf, IsRead, GivesTree, Takes, IsOneOf, PicksTree, Picks, IsOrdered}
 use Rattle.hl_disk.proofs.Places.{place_cases}
 
@@ -72,7 +72,8 @@ limits_are bytes p found none = elim (cases_eq p.limits.nodes 511) [
         differ (ap (λ (x : Plain). x.limits) same))) in
         cc
 
-is_read : (bytes : List ℕ) (p : Plain) → ((t : Files) → (Some p ≡ Some (record { limits = dump_limits; tree = t })) ↔ IsDump bytes t) → (IsNone (Some p) ↔ ((t : Files) → ¬ IsDump bytes t)) → IsDump bytes p.tree × (p.limits ≡ dump_limits)
+-- and has the dump
+pub is_read : (bytes : List ℕ) (p : Plain) → ((t : Files) → (Some p ≡ Some (record { limits = dump_limits; tree = t })) ↔ IsDump bytes t) → (IsNone (Some p) ↔ ((t : Files) → ¬ IsDump bytes t)) → IsDump bytes p.tree × (p.limits ≡ dump_limits)
 is_read bytes p found none =
     let limits = limits_are bytes p found none in
     let same : p ≡ record { limits = dump_limits; tree = p.tree } = ap (λ (l : Limits). record { limits = l; tree = p.tree }) limits in

@@ -1,18 +1,18 @@
 -- The dump of the root alone has no bytes.
-use Rattle.std.proofs.Common.{◌≡◌, ℕ, ◌≤◌, List, [], ◌∷◌, ◌++◌, length, All, Option, Some, None, cond, refl, sym, ◌∙◌, ap, subst, arith}
+use Rattle.std.proofs.Common.{◌≡◌, ℕ, List, [], ◌∷◌, ◌++◌, length, All, Some, None, cond, sym, ◌∙◌, ap, subst, arith}
 use Rattle.std.specs.List.{flat_map}
 use Rattle.std.specs.Ordering.{eq_by_cmp}
-use Rattle.std.specs.FinMap.{get, empty, entries, len, get-insert, get-empty}
+use Rattle.std.specs.FinMap.{get, empty, get-insert, get-empty}
 use Rattle.std.proofs.lemmas.List.Elements.{All-nil, All-cons}
 use Rattle.hl_tree.specs.declared.node.Node.{Node}
 use Rattle.hl_tree.specs.declared.node.Node.TheVariants.{Dir}
 use Rattle.hl_tree.specs.Names.{IsName, AreNames, path_cmp}
 use Rattle.hl_tree.specs.Rules.{Files}
-use Rattle.hl_tree.specs.Tree.{IsTree, root_alone}
+use Rattle.hl_tree.specs.Tree.{root_alone}
 use Rattle.hl_tree.proofs.Maps.{path_total}
 use Rattle.hl_tree.proofs.Sorted.{entries-root_alone}
 use Rattle.hl_tree.proofs.Room.{len-root_alone}
-use Rattle.hl_dump.specs.Dumps.{entry_bytes, dump_bytes, dump_size, HasDump, IsDump}
+use Rattle.hl_dump.specs.Dumps.{entry_bytes, dump_bytes, dump_size, IsDump}
 
 abbrev root : Files
 root = root_alone

@@ -1,16 +1,16 @@
 -- Images with the same blocks stand for the same tree, and a stop leaves what is settled.
-use Rattle.std.proofs.Common.{◌≡◌, inl, ℕ, ◌≤◌, ◌<◌, ◌+◌, List, [], length, take, refl, sym, ◌∙◌, ap, subst}
+use Rattle.std.proofs.Common.{◌≡◌, inl, ℕ, List, [], length, take, refl, sym, ◌∙◌, ap, subst}
 use Rattle.sha2.specs.Sha256.{sha256}
-use Rattle.hl_media.specs.History.{Image, area, MachineState, MayLeave, IsUntouched, PendingWrite}
+use Rattle.hl_media.specs.History.{Image, MachineState, IsUntouched, PendingWrite}
 use Rattle.hl_media.proofs.Images.{area_same}
 use Rattle.hl_super.specs.Labels as labels
 use Rattle.hl_tree.specs.Rules.{Files}
 use Rattle.hl_dump.specs.Dumps.{IsDump}
 use Rattle.hl_disk.specs.declared.record.DumpRecord.{DumpRecord}
 use Rattle.hl_disk.specs.Records.{place_of, Spells}
-use Rattle.hl_disk.specs.Disks.{start_of, blocks_of, dump_at, Stands, Checks, HasLabel, StandsFor, Holds}
+use Rattle.hl_disk.specs.Disks.{start_of, blocks_of, dump_at, Stands, Checks, StandsFor, Holds}
 use Rattle.hl_disk.specs.Stops.{StopLeaves, IsSettled}
-use Rattle.hl_disk.specs.Saves.{HoldsEither, IsSaving}
+use Rattle.hl_disk.specs.Saves.{IsSaving}
 
 module _ (image other : Image) (same : (k : ℕ) → image k ≡ other k) where
   dump_same : (r : DumpRecord) → dump_at image r ≡ dump_at other r

@@ -1,24 +1,22 @@
 -- What a stop leaves in each stage of a save.
-use Rattle.std.proofs.Common.{◌≡◌, ◌≢◌, ◌⊎◌, inl, inr, ⊎_elim, ℕ, ◌+◌, ◌-◌, ◌*◌, ◌/◌, ◌<◌, ◌≤◌, ◌^◌, true, List, [], ◌∷◌, ◌++◌, length, take, Result, refl, sym, ◌∙◌, ap, subst, arith}
+use Rattle.std.proofs.Common.{◌≡◌, ◌≢◌, ◌⊎◌, inl, inr, ⊎_elim, ℕ, ◌+◌, ◌-◌, ◌/◌, ◌<◌, ◌≤◌, ◌^◌, true, List, [], length, take, refl, sym, ◌∙◌, ap, subst, arith}
 use Rattle.std.proofs.lemmas.Bool.{cases_lt}
 use Rattle.std.proofs.lemmas.List.{length-take-le}
 use Rattle.sha2.specs.Sha256.{sha256}
 use Rattle.hl_bytes.proofs.Seals.{length-sha256}
-use Rattle.hl_media.specs.declared.failed.Failed.{Failed}
-use Rattle.hl_media.specs.History.{Image, area, overwritten, block_of, IsWhole, IsUntouched, PendingWrite, MachineState, DeviceCall, begun, ended}
+use Rattle.hl_media.specs.History.{Image, area, overwritten, block_of, IsWhole, IsUntouched, PendingWrite, MachineState, begun, ended}
 use Rattle.hl_media.specs.History.DeviceCall.{Write, Sync}
-use Rattle.hl_media.specs.Moments.{AtEach}
 use Rattle.hl_media.proofs.Images.{overwritten_in, overwritten_out, area_same, area_overwritten, block_of_one}
 use Rattle.hl_tree.specs.Rules.{Files}
 use Rattle.hl_dump.specs.Dumps.{IsDump}
 use Rattle.hl_disk.specs.declared.record.DumpRecord.{DumpRecord}
-use Rattle.hl_disk.specs.Records.{place_of, IsRecord, Spells, record_bytes}
-use Rattle.hl_disk.specs.Disks.{start_of, blocks_of, dump_at, Stands, Checks, StandsFor, Holds}
+use Rattle.hl_disk.specs.Records.{place_of, Spells, record_bytes}
+use Rattle.hl_disk.specs.Disks.{start_of, blocks_of, dump_at, Stands, StandsFor, Holds}
 use Rattle.hl_disk.specs.Stops.{NoChanceOf, IsSettled}
 use Rattle.hl_disk.specs.Saves.{HoldsEither, IsSaving}
 use Rattle.hl_disk.specs.Packs.{IsPacked}
 use Rattle.hl_disk.proofs.RecordLemmas.{once}
-use Rattle.hl_disk.proofs.Places.{parity, place_low, place_high, places_differ, place_of_two, start_low, halves}
+use Rattle.hl_disk.proofs.Places.{place_low, place_high, places_differ, place_of_two, start_low, halves}
 use Rattle.hl_disk.proofs.Kept.{short, blocks_small, label_kept, holds_by, holds_kept}
 
 module _ (blocks n : ℕ) (new_tree : Files) (r : DumpRecord) (bytes block : List ℕ) (packed : IsPacked (n + 1) new_tree r bytes) (low : n < 2 ^ 64 - 1)

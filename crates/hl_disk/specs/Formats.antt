@@ -1,8 +1,8 @@
 -- What making a disk does.
 use Rattle.std.specs.Prelude.{◌≡◌, ◌⊎◌, ℕ, zero, suc, Bool, true, false, IsTrue, List, [], ◌∷◌, Option}
 use Rattle.std.specs.Option.{ForSome}
-use Rattle.hl_media.specs.History.{Image, DeviceCall, MachineState, History, state_now, state_at, with_calls}
-use Rattle.hl_media.specs.History.DeviceCall.{Read, Write, Sync, Say}
+use Rattle.hl_media.specs.History.{Image, DeviceCall, History, state_now, state_at, with_calls}
+use Rattle.hl_media.specs.History.DeviceCall.{Sync}
 use Rattle.hl_tree.specs.Tree.{root_alone}
 use Rattle.hl_disk.specs.Disks.{HasLabel, Holds}
 use Rattle.hl_disk.specs.Stops.{StopLeaves}

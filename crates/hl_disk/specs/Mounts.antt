@@ -1,6 +1,6 @@
 -- What mounting a disk gives.
-use Rattle.std.specs.Prelude.{◌≡◌, ◌<◌, ◌≤◌, ◌^◌, ℕ, Result, Ok, Err}
-use Rattle.hl_media.specs.History.{Image, MachineState}
+use Rattle.std.specs.Prelude.{◌≡◌, ◌<◌, ◌^◌, ℕ, Result, Ok, Err}
+use Rattle.hl_media.specs.History.{Image}
 use Rattle.hl_tree.specs.Rules.{Files}
 use Rattle.hl_dump.specs.Dumps.{HasDump, dump_limits}
 use Rattle.hl_disk.specs.declared.mounting.Mounted.{Mounted}

@@ -1,7 +1,7 @@
 -- What the parts of a mount give.
 use Rattle.std.specs.Prelude.{◌≡◌, ◌⊎◌, ◌↔◌, ℕ, ◌≤◌, List, length, Option, Some, None, Result, Ok, Err}
 use Rattle.sha2.specs.Sha256.{sha256}
-use Rattle.hl_media.specs.History.{Image, MachineState, History}
+use Rattle.hl_media.specs.History.{Image, History}
 use Rattle.hl_media.specs.Moments.{Runs}
 use Rattle.hl_tree.specs.PlainValue.{Plain}
 use Rattle.hl_tree.specs.Rules.{Files}

@@ -1,5 +1,5 @@
 -- What a stop may leave of a disk of two dumps, unless a torn write checks by chance.
-use Rattle.std.specs.Prelude.{◌≡◌, ◌⊎◌, ℕ, ◌+◌, ◌<◌, List, [], ◌∷◌}
+use Rattle.std.specs.Prelude.{◌≡◌, ◌⊎◌, ℕ, ◌<◌, List, [], ◌∷◌}
 use Rattle.hl_media.specs.History.{Image, PendingWrite, MachineState, MayLeave}
 use Rattle.hl_super.specs.declared.label.Label.{Label}
 use Rattle.hl_super.specs.Labels as labels

@@ -73,9 +73,9 @@ fn has_label<M: Machine>(machine: &mut M) -> Result<bool, Failed>
     ensures say_faults { M.say_faults machine.new ≡ M.say_faults machine.old }
 {
     let mut block = [0; BLOCK];
-    let blocks = machine.blocks();
+    let count = machine.blocks();
     machine.read(0, &mut block)?;
-    Ok(decode_label(&block, blocks).is_some())
+    Ok(decode_label(&block, count).is_some())
 }
 
 /// The record of block 1 or 2.

@@ -1,11 +1,14 @@
 //! What no clause says: calls succeed where nothing fails, what a changed byte leaves, and which answer a failed call
 //! gives.
 
-ghost use Rattle.std.specs.Prelude.{◌≡◌, ◌≤◌, ◌<◌, ◌^◌, ◌-◌, IfOk};
+ghost use Rattle.std.specs.Prelude.{◌≡◌, ◌<◌, IfOk};
 ghost use Rattle.hl_dump.specs.Dumps.{HasDump};
 
-use crate::{MountError, SaveError, format, mount, save};
-use hl_bytes::BLOCK;
+use crate::{
+    DISK_BLOCKS, DumpRecord, MountError, SaveError, decode_record, encode_record, format, mount,
+    save,
+};
+use hl_bytes::{BLOCK, has_bytes};
 use hl_dump::{read_dump, write_dump};
 use hl_media::Machine;
 use hl_mem::MemMachine;
@@ -20,20 +23,23 @@ const FILE: &[u8] = b"\x01\x02\0\0\0/a\x02\0\0\0hi";
 /// A directory `d` with a file `f` that holds `xyz`.
 const FOLDER: &[u8] = b"\x02\x02\0\0\0/d\x01\x04\0\0\0/d/f\x03\0\0\0xyz";
 
-/// A disk of zeros.
-fn blank(alloc: Global) -> Result<MemMachine, Fail>
-    ensures { IfOk result (λ machine. 2112 ≤ machine.blocks) }
-{
-    Ok(MemMachine::new(alloc, 2112)?)
+/// The SHA-256 of no bytes.
+const EMPTY: [u8; 32] =
+    *b"\xe3\xb0\xc4\x42\x98\xfc\x1c\x14\x9a\xfb\xf4\xc8\x99\x6f\xb9\x24\x27\xae\x41\xe4\x64\x9b\x93\x4c\xa4\x95\x99\x1b\x78\x52\xb8\x55";
+
+/// The digest of the record of the empty dump, made elsewhere.
+const SEAL: [u8; 32] =
+    *b"\x90\xbc\x13\x05\x9b\x1c\x6f\xcd\xe2\x97\xd8\xab\xfd\x3b\x1b\x1a\x7d\xa0\xfb\x70\x31\x59\x0d\x47\x15\x36\xf8\x71\xab\x4c\xd5\x3b";
+
+/// The blocks of a disk, as a number that proofs don't compute with.
+fn blocks() -> u32 {
+    DISK_BLOCKS
 }
 
-/// A disk that was made.
-fn made(rt: &impl Abort, alloc: Global) -> Result<MemMachine, Fail>
-    ensures { IfOk result (λ machine. 2112 ≤ machine.blocks) }
-{
-    let mut machine = blank(alloc)?;
-    assert!(rt; format(&mut machine).is_ok());
-    Ok(machine)
+/// Makes the disk.
+fn formatted(rt: &impl Abort, machine: &mut MemMachine) -> bool {
+    assert!(rt; machine.blocks() >= 2112);
+    format(machine).is_ok()
 }
 
 /// The tree of a dump.
@@ -53,11 +59,8 @@ fn saved(
     machine: &mut MemMachine,
     number: u64,
     dump: &[u8],
-) -> Result<Result<(), SaveError>, Fail>
-    requires room { 2112 ≤ machine.old.blocks }
-    requires numbered { number < 2 ^ 64 - 1 }
-    ensures { machine.new.blocks ≡ machine.old.blocks }
-{
+) -> Result<Result<(), SaveError>, Fail> {
+    assert!(rt; machine.blocks() >= 2112 && number < 100);
     let files = tree(rt, alloc, dump)?;
     Ok(save(alloc, machine, number, &files))
 }
@@ -68,10 +71,8 @@ fn mounted(
     alloc: Global,
     machine: &mut MemMachine,
     dump: &[u8],
-) -> Result<Result<u64, MountError>, Fail>
-    requires room { 2112 ≤ machine.old.blocks }
-    ensures { machine.new.blocks ≡ machine.old.blocks }
-{
+) -> Result<Result<u64, MountError>, Fail> {
+    assert!(rt; machine.blocks() >= 2112);
     match mount(alloc, machine) {
         Ok(mounted) => {
             let mut bytes = Vec::new(alloc);
@@ -84,11 +85,8 @@ fn mounted(
 }
 
 /// Changes one byte of a block.
-fn change(rt: &impl Abort, machine: &mut MemMachine, block: u32, at: usize)
-    requires block { block < machine.old.blocks }
-    requires within { at < 4096 }
-    ensures { machine.new.blocks ≡ machine.old.blocks }
-{
+fn change(rt: &impl Abort, machine: &mut MemMachine, block: u32, at: usize) {
+    assert!(rt; block < machine.blocks() && at < BLOCK);
     let mut bytes = [0; BLOCK];
     assert!(rt; machine.read(block, &mut bytes).is_ok());
     bytes[at] = bytes[at] ^ 1;
@@ -104,52 +102,82 @@ fn long(alloc: Global) -> Result<Vec<u8>, Fail> {
 }
 
 #[test]
+fn the_record_of_the_empty_dump_has_these_bytes(rt: HostRuntime) {
+    let first = DumpRecord {
+        number: 1,
+        length: 0,
+        digest: EMPTY,
+    };
+    let mut block = [7; BLOCK];
+    encode_record(&first, &mut block);
+    assert!(rt; has_bytes(&block, 0, b"HLDUMP01\x01\0\0\0\0\0\0\0\0\0\0\0"));
+    assert!(rt; has_bytes(&block, 20, &EMPTY) && has_bytes(&block, 4064, &SEAL));
+    assert_eq!(rt; decode_record(&block, 1), Some(first));
+    assert_eq!(rt; decode_record(&block, 2), None);
+}
+
+#[test]
 fn a_saved_tree_is_mounted(rt: HostRuntime) -> Result<(), Fail> {
     let alloc = rt.alloc();
     let long = long(alloc)?;
-    let mut machine = made(&rt, alloc)?;
+    let mut machine = MemMachine::new(alloc, blocks())?;
+    assert!(rt; formatted(&rt, &mut machine));
     assert_eq!(rt; mounted(&rt, alloc, &mut machine, b"")?, Ok(1));
-    let mut number = 1;
-    for dump in [FILE, FOLDER, long.as_slice(), b"".as_slice()] {
-        assert!(rt; number < 9);
+    for (number, dump) in [
+        (1, FILE),
+        (2, FOLDER),
+        (3, long.as_slice()),
+        (4, b"".as_slice()),
+    ] {
         assert_eq!(rt; saved(&rt, alloc, &mut machine, number, dump)?, Ok(()));
-        number += 1;
-        assert_eq!(rt; mounted(&rt, alloc, &mut machine, dump)?, Ok(number));
+        assert_eq!(rt; mounted(&rt, alloc, &mut machine, dump)?, Ok(number + 1));
     }
     Ok(())
+}
+
+/// With a byte of each of two blocks changed this is mounted; the bytes are changed back.
+fn mounted_with(
+    rt: &impl Abort,
+    alloc: Global,
+    machine: &mut MemMachine,
+    first: (u32, usize),
+    second: (u32, usize),
+    dump: &[u8],
+) -> Result<Result<u64, MountError>, Fail> {
+    change(rt, machine, first.0, first.1);
+    change(rt, machine, second.0, second.1);
+    let found = mounted(rt, alloc, machine, dump)?;
+    change(rt, machine, first.0, first.1);
+    change(rt, machine, second.0, second.1);
+    Ok(found)
 }
 
 #[test]
 fn a_changed_byte_leaves_the_other_tree_or_none(rt: HostRuntime) -> Result<(), Fail> {
     let alloc = rt.alloc();
-    let mut machine = blank(alloc)?;
+    let mut machine = MemMachine::new(alloc, blocks())?;
     assert_eq!(rt;
         mounted(&rt, alloc, &mut machine, b"")?,
         Err(MountError::NoLabel)
     );
-    assert!(rt; format(&mut machine).is_ok());
+    assert!(rt; formatted(&rt, &mut machine));
     assert_eq!(rt; saved(&rt, alloc, &mut machine, 1, FILE)?, Ok(()));
     assert_eq!(rt; saved(&rt, alloc, &mut machine, 2, FOLDER)?, Ok(()));
     let table = [
-        ((1, 4090), (3, 0), FILE, Ok(2)),
         ((1, 16), (3, 0), FILE, Ok(2)),
         ((1, 60), (3, 0), FILE, Ok(2)),
         ((64, 20), (3, 0), FILE, Ok(2)),
         ((2, 21), (1088, 0), FOLDER, Ok(3)),
         ((1, 8), (2, 8), FILE, Err(MountError::NoRecord)),
         ((64, 0), (2, 4064), FILE, Err(MountError::NoRecord)),
-        ((1, 0), (1088, 11), FILE, Err(MountError::NoRecord)),
         ((0, 4000), (3, 0), FILE, Err(MountError::NoLabel)),
     ];
     for (first, second, dump, want) in table {
-        assert!(rt; first.0 < 2112 && first.1 < BLOCK && second.0 < 2112 && second.1 < BLOCK);
-        change(&rt, &mut machine, first.0, first.1);
-        change(&rt, &mut machine, second.0, second.1);
-        assert_eq!(rt; mounted(&rt, alloc, &mut machine, dump)?, want, "{first:?}");
-        change(&rt, &mut machine, first.0, first.1);
-        change(&rt, &mut machine, second.0, second.1);
+        assert_eq!(rt;
+            mounted_with(&rt, alloc, &mut machine, first, second, dump)?,
+            want
+        );
     }
-    assert_eq!(rt; mounted(&rt, alloc, &mut machine, FOLDER)?, Ok(3));
     Ok(())
 }
 
@@ -165,35 +193,58 @@ fn fail_ahead(alloc: Global, machine: &mut MemMachine, count: u64) -> Result<(),
     Ok(())
 }
 
-#[test]
-fn a_call_that_fails_is_told(rt: HostRuntime) -> Result<(), Fail> {
-    let alloc = rt.alloc();
-    let mut machine = blank(alloc)?;
+/// Each call of making a disk fails in turn.
+fn each_call_of_format(
+    rt: &impl Abort,
+    alloc: Global,
+    machine: &mut MemMachine,
+) -> Result<(), Fail> {
     for count in 1..7 {
-        fail_ahead(alloc, &mut machine, count)?;
-        assert!(rt; format(&mut machine).is_err());
+        fail_ahead(alloc, machine, count)?;
+        assert!(rt; !formatted(rt, machine));
     }
-    assert!(rt; format(&mut machine).is_ok());
-    for (count, dump, left) in [
-        (1, b"".as_slice(), 1),
-        (2, b"", 1),
-        (3, b"", 1),
-        (4, FILE, 2),
-    ] {
-        fail_ahead(alloc, &mut machine, count)?;
-        assert_eq!(rt;
-            saved(&rt, alloc, &mut machine, 1, FILE)?,
-            Err(SaveError::Disk)
-        );
-        assert_eq!(rt; mounted(&rt, alloc, &mut machine, dump)?, Ok(left));
-    }
+    Ok(())
+}
+
+/// Each call of a save fails in turn; after the last one the record is there all the same.
+fn each_call_of_save(rt: &impl Abort, alloc: Global, machine: &mut MemMachine) -> Result<(), Fail> {
     for count in 1..5 {
-        fail_ahead(alloc, &mut machine, count)?;
+        let left = if count == 4 {
+            (FILE, 2)
+        } else {
+            (b"".as_slice(), 1)
+        };
+        fail_ahead(alloc, machine, count)?;
+        assert_eq!(rt; saved(rt, alloc, machine, 1, FILE)?, Err(SaveError::Disk));
+        assert_eq!(rt; mounted(rt, alloc, machine, left.0)?, Ok(left.1));
+    }
+    Ok(())
+}
+
+/// Each read of a mount fails in turn.
+fn each_call_of_mount(
+    rt: &impl Abort,
+    alloc: Global,
+    machine: &mut MemMachine,
+) -> Result<(), Fail> {
+    for count in 1..5 {
+        fail_ahead(alloc, machine, count)?;
         assert_eq!(rt;
-            mounted(&rt, alloc, &mut machine, FILE)?,
+            mounted(rt, alloc, machine, FILE)?,
             Err(MountError::DiskFault)
         );
     }
+    Ok(())
+}
+
+#[test]
+fn a_call_that_fails_is_told(rt: HostRuntime) -> Result<(), Fail> {
+    let alloc = rt.alloc();
+    let mut machine = MemMachine::new(alloc, blocks())?;
+    each_call_of_format(&rt, alloc, &mut machine)?;
+    assert!(rt; formatted(&rt, &mut machine));
+    each_call_of_save(&rt, alloc, &mut machine)?;
+    each_call_of_mount(&rt, alloc, &mut machine)?;
     assert_eq!(rt; mounted(&rt, alloc, &mut machine, FILE)?, Ok(2));
     Ok(())
 }

@@ -88,8 +88,8 @@ fn read_on(
 /// The tree whose dump the bytes are, with the limits of a dump, and None where they are the dump of
 /// no tree: they are too long or cut short, a kind is unknown, a path is off the form or out of order,
 /// a parent is missing or a file, or the entries are more than 510.
-/// Each byte of a file is copied once; an entry's work grows with its own bytes and with the number of
-/// entries' logarithm.
+/// Each byte of a file is copied once. Each entry looks its parent and its own place up among the rows
+/// before it, by binary search.
 pub fn read_dump(alloc: Global, bytes: &[u8]) -> Result<Option<PlainTree>, AllocError>
     ensures found { IfOk result (λ r. (t : Files) → (r ≡ Some (record { limits = dump_limits; tree = t })) ↔ IsDump bytes.now t) }
     ensures none { IfOk result (λ r. IsNone r ↔ ((t : Files) → ¬ IsDump bytes.now t)) }

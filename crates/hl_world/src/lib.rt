@@ -1,8 +1,12 @@
-//! The files that a script's lines are done on, with the machine that says their answers.
+//! A mounted disk: the files that a script's lines are done on, with the machine that keeps them and says the answers.
 #![tactic(auto)]
 
+mod calls;
+mod fault;
 mod world;
 
+pub use fault::CloseFault;
+pub use hl_disk::MountError;
 pub use world::World;
 
 #[cfg(test)]

@@ -1,33 +1,33 @@
-//! A line on files in memory.
-
-ghost use Rattle.std.specs.Prelude.{IfOk, IsTrue};
-ghost use Rattle.hl_world.specs.Worlds.{is_file_call};
+//! What no clause says: lines and closing succeed where nothing fails.
 
 use crate::World;
+use hl_disk::format;
+use hl_mem::MemMachine;
 use hl_script::{Line, Said};
-use hl_tree::{Call, Limits, List, Path, PlainTree, Refusal, Reply};
-use std::alloc::{AllocError, Global};
-
-fn create(alloc: Global, name: &[u8]) -> Result<Line, AllocError>
-    ensures { IfOk result (λ line. IsTrue (is_file_call line)) }
-{
-    let mut names = Vec::new(alloc);
-    names.push(List::of(Vec::from_slice(alloc, name)?))?;
-    match Path::new(names) {
-        Some(path) => Ok(Line::File(Call::Create { path })),
-        None => Err(AllocError),
-    }
-}
+use hl_tree::{Call, List, Path, Refusal, Reply};
+use std::alloc::AllocError;
+use std::test::*;
 
 #[test]
-fn a_line_is_answered_by_the_file_rules(rt: HostRuntime) -> Result<(), AllocError> {
+fn what_is_closed_is_mounted_again(rt: HostRuntime) -> Result<(), Fail> {
     let alloc = rt.alloc();
-    let files = PlainTree::new(alloc, Limits { nodes: 2, bytes: 9 })?;
-    let mut world = World::of_tree(7u8, files);
-    let said = world.line(alloc, &create(alloc, b"a")?, 0);
-    assert!(rt; matches!(said, Said::Reply(Reply::Ok)));
-    let refused = world.line(alloc, &create(alloc, b"b")?, 0);
-    assert!(rt; matches!(refused, Said::Reply(Reply::Refused(Refusal::Einodes))));
-    assert!(rt; world.leave() == 7);
+    let mut machine = MemMachine::new(alloc, 2112)?;
+    assert!(rt; format(&mut machine).is_ok());
+    let mut names = Vec::new(alloc);
+    names.push(List::of(Vec::from_slice(alloc, b"a")?))?;
+    let path = Path::new(names).ok_or(AllocError)?;
+    let line = Line::File(Call::Create { path });
+    let Ok(mut world) = World::mount(alloc, machine) else {
+        panic!(rt; "no disk")
+    };
+    let first = world.line(alloc, &line, 0);
+    assert!(rt; matches!(first, Said::Reply(Reply::Ok)));
+    let (closed, machine) = world.close(alloc);
+    assert!(rt; closed == Ok(()));
+    let Ok(mut again) = World::mount(alloc, machine) else {
+        panic!(rt; "no disk")
+    };
+    let second = again.line(alloc, &line, 0);
+    assert!(rt; matches!(second, Said::Reply(Reply::Refused(Refusal::Eexist))));
     Ok(())
 }

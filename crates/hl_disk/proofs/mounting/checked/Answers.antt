@@ -1,4 +1,4 @@
-use Rattle.std.proofs.Common.{rules, ◌≡◌, ◌↔◌, List, ℕ, length, Option, Some, Result, Ok, Err, sym, ◌∙◌}
+use Rattle.std.proofs.Common.{rules, ◌≡◌, ◌↔◌, List, ℕ, length, Option, Some, Result, Ok, Err}
 use Rattle.std.specs.Prelude.{IfOk, IfSome, IsNone}
 use Rattle.std.specs.declared.alloc.AllocError.{AllocError}
 use Rattle.sha2.specs.Sha256.{sha256}

@@ -1,8 +1,5 @@
-use Rattle.std.proofs.Common.{◌≡◌, ◌↔◌, true, subst, sym, refl}
-use Rattle.std.specs.Prelude.{IsTrue}
-use Rattle.hl_media.specs.History.{Image, content}
-use Rattle.hl_disk.specs.Disks.{HasLabel}
-use Rattle.hl_disk.specs.Reads.{FindsRecord, Picks, OnlyReads}
+use Rattle.hl_media.specs.History.{content}
+use Rattle.hl_disk.specs.Reads.{FindsRecord, Picks}
 use Rattle.hl_disk.proofs.Reading.{reads_then, seen_before, mounts_by}
 use Rattle.hl_disk.proofs.mounting.mount.Goals as goal
 

@@ -1,4 +1,4 @@
-use Rattle.std.proofs.Common.{◌≡◌, None, Some}
+use Rattle.std.proofs.Common.{None, Some}
 use Rattle.hl_media.specs.History.{content}
 use Rattle.hl_disk.specs.Reads.{Takes}
 use Rattle.hl_disk.proofs.Reading.{reads_then, seen_before, picks_second, picks_none}
