@@ -1,5 +1,8 @@
-mod Answering
-mod Hearing
-mod OneLine
-mod OneWord
-mod Turning
+pub mod OneTurn
+pub mod Hearing
+pub mod OneLine
+pub mod OneWord
+pub mod Points
+pub mod Turning
+pub mod Alone
+pub mod Closing

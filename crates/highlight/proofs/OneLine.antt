@@ -186,6 +186,10 @@ heads (b ∷ t) rest (x ∷ p) q a e =
       | inr more ↦ inr (more.0, ap (λ y. y ∷ p) first ∙ ap (λ l. b ∷ l) more.1, more.2)
     ]
 
+-- an answer is one line
+pub one_line : (a : Said) → whole_lines (answer_line a) ≡ 1
+one_line a = counts (answer_text a) [] (none_text a)
+
 take_none : (n : ℕ) → take {A = DoneLine} n [] ≡ []
 take_none zero = refl
 take_none (suc n) = refl

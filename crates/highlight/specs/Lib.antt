@@ -1,4 +1,7 @@
 pub mod Command
-pub mod Run
 pub mod Served
+pub mod Run
 pub mod Turn
+pub mod Runs
+pub mod Makes
+pub mod Statuses

@@ -1,9 +1,13 @@
 //! `highlight`: a log-structured file system whose cold data lives on a jukebox of removable volumes.
 #![tactic(auto)]
 
+mod answering;
 mod command;
+mod disk;
 mod end;
 mod ended;
+mod making;
+mod mounted;
 mod run;
 mod served;
 #[cfg(test)]
@@ -12,6 +16,7 @@ mod top;
 mod turn;
 mod volume;
 
+use disk::open_disk;
 use hl_host::{FileMachine, StdClock, StdSource};
 use hl_media::Rack;
 use std::alloc::AllocError;
@@ -20,7 +25,8 @@ use std::{env, io};
 use top::highlight;
 use volume::Blank;
 
-/// Does what the words after the program's name say, over the standard streams and the system's clock, and ends with
+/// Does what the words after the program's name say, over the file
+/// `disk.img` of the current folder, the standard streams and the system's clock, and ends with
 /// its status; with 8 where there is no memory to begin.
 fn main(rt: HostRuntime) -> ExitCode {
     match status(rt) {
@@ -32,7 +38,8 @@ fn main(rt: HostRuntime) -> ExitCode {
 fn status(rt: HostRuntime) -> Result<u8, AllocError> {
     let alloc = rt.alloc();
     let words = words(rt)?;
-    let machine = FileMachine::new(None, 0, rt.stdout());
+    let (file, blocks) = open_disk(rt);
+    let machine = FileMachine::new(file, blocks, rt.stdout());
     let volumes: Vec<Blank> = Vec::new(alloc);
     let rack = match Rack::new(alloc, volumes) {
         Ok(rack) => rack,

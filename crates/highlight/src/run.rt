@@ -1,10 +1,13 @@
 //! A run over the lines of an input.
 
-ghost use Rattle.std.specs.Prelude.{◌≡◌, ◌≤◌};
+ghost use Rattle.std.specs.Prelude.{◌≡◌, ◌≤◌, IfSome};
 ghost use Rattle.hl_media.specs.Causes.{Rose};
-ghost use Rattle.hl_media.specs.Saying.{OnlySays};
-ghost use Rattle.hl_tree.specs.Tree.{root_alone};
-ghost use Rattle.highlight.specs.Run.{RanOver, file_limits};
+ghost use Rattle.hl_media.specs.Moments.{Runs};
+ghost use Rattle.hl_world.specs.Worlds.{IsReady};
+ghost use Rattle.highlight.specs.Run.{RanBy, input_limit};
+ghost use Rattle.highlight.specs.Runs.{OpensAs, LeavesLines};
+ghost use Rattle.hl_dump.specs.Dumps.{dump_limits};
+ghost use Rattle.highlight.specs.Turn.{held};
 
 use crate::end::End;
 use crate::turn::turn;
@@ -23,16 +26,20 @@ pub fn run<S: Source, M: Machine, C: Clock>(
     input: &mut S,
     clock: &mut C,
 ) -> End
-    requires { world.old.files ≡ record { limits = file_limits; tree = root_alone } }
-    ensures ran { RanOver (Rose (M.say_faults world.old.machine) (M.say_faults world.new.machine)) (S.left input.old) (M.history world.old.machine) (M.history world.new.machine) result }
-    ensures says { OnlySays (M.history world.old.machine) (M.history world.new.machine) }
+    requires room { 2112 ≤ M.blocks world.old.machine }
+    requires ready { IsReady world.old }
+    requires opens { OpensAs (M.blocks world.old.machine) (M.history world.old.machine) (held world.old) }
+    ensures ready { IsReady world.new }
+    ensures ran { IfSome (S.left input.old) (λ bytes. RanBy Runs (Rose (M.say_faults world.old.machine) (M.say_faults world.new.machine)) (Rose (M.write_faults world.old.machine) (M.write_faults world.new.machine))
+        (LeavesLines (M.blocks world.old.machine) (held world.old) (held world.new) (M.history world.old.machine) (M.history world.new.machine) result)
+        (M.blocks world.old.machine) dump_limits input_limit world.old.files.tree bytes result (M.history world.old.machine) (M.history world.new.machine)) }
     ensures blocks { M.blocks world.new.machine ≡ M.blocks world.old.machine }
-    ensures faults { M.faults world.new.machine ≡ M.faults world.old.machine }
-    ensures write_faults { M.write_faults world.new.machine ≡ M.write_faults world.old.machine }
     ensures input { result ≡ End.Input → Rose (S.faults input.old) (S.faults input.new) }
     ensures input_later { S.faults input.old ≤ S.faults input.new }
     ensures output { result ≡ End.Output → Rose (M.say_faults world.old.machine) (M.say_faults world.new.machine) }
     ensures output_later { M.say_faults world.old.machine ≤ M.say_faults world.new.machine }
+    ensures broken { result ≡ End.Broken → Rose (M.faults world.old.machine) (M.faults world.new.machine) }
+    ensures disk_later { (M.faults world.old.machine ≤ M.faults world.new.machine) × (M.write_faults world.old.machine ≤ M.write_faults world.new.machine) }
 {
     let mut lines = match Lines::new(alloc, INPUT_LIMIT) {
         Ok(lines) => lines,

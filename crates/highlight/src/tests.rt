@@ -1,85 +1,131 @@
-//! Whole runs over devices in memory: what is said, and the status.
+//! Whole commands over devices in memory: what is said, the status, and what a stop leaves.
 
 ghost use Rattle.std.specs.Prelude.{◌≤◌};
 
+use crate::ended::Ended;
 use crate::top::highlight;
 use hl_media::Rack;
-use hl_mem::{MemClock, MemMachine, MemSource, MemVolume};
-use std::alloc::Global;
+use hl_mem::{MemClock, MemMachine, MemSource, MemVolume, Tear};
+use std::alloc::{AllocError, Global};
 use std::process::Abort;
 use std::test::*;
 
-const DAY: &[u8] = b"create /a\nwrite /a 0 6869\nread /a 0 9\n";
+/// The blocks that a disk needs.
+const BLOCKS: u32 = 2112;
 
-/// A run of `run` over an input in pieces, where the read and the `say` of these numbers fail, and 0 is none.
-fn ran(
-    rt: &impl Abort,
-    alloc: Global,
-    input: &[u8],
-    piece: usize,
-    fails: (u64, u64),
-    want: (u8, &[u8]),
-) -> Result<(), Fail>
-    requires { 1 ≤ piece }
-{
-    let mut source = MemSource::new(Vec::from_slice(alloc, input)?, piece);
-    source.fail_call(alloc, fails.0)?;
-    let mut machine = MemMachine::new(alloc, 0)?;
-    machine.fail_call(alloc, fails.1)?;
-    let mut words = Vec::new(alloc);
-    words.push(String::from_str(alloc, "run")?)?;
-    called(rt, alloc, &words, source, machine, want)
-}
+/// A day of a user: folders, notes, a rename, a list.
+const DAY: &[u8] =
+    b"mkdir /d\ncreate /d/n\nwrite /d/n 0 6869\nrename /d/n /d/m\nlist /d\nsync\nread /d/m 0 9\n";
 
-/// A call of these words says this text and ends with this status.
+/// A command of these words ends with this status, and its machine says this text.
 fn called(
     rt: &impl Abort,
     alloc: Global,
-    words: &[String],
+    words: &[&str],
     source: MemSource,
     machine: MemMachine,
     want: (u8, &[u8]),
-) -> Result<(), Fail> {
+) -> Result<MemMachine, Fail> {
     let mut source = source;
+    let before = machine.said().len();
+    let mut list = Vec::new(alloc);
+    for word in words {
+        list.push(String::from_str(alloc, word)?)?;
+    }
     let mut clock = MemClock::new(Vec::new(alloc));
     let volumes: Vec<MemVolume> = Vec::new(alloc);
-    match Rack::new(alloc, volumes) {
-        Ok(rack) => {
-            let ended = highlight(alloc, words, &mut source, machine, rack, &mut clock);
-            assert_eq!(rt; ended.status, want.0);
-            assert!(rt; ended.machine.said() == want.1);
-            Ok(())
-        }
-        Err(_) => Err(Fail::from(std::alloc::AllocError)),
+    let Ok(rack) = Rack::new(alloc, volumes) else {
+        return Err(Fail::from(AllocError));
+    };
+    let Ended {
+        status,
+        machine,
+        ..
+    } = highlight(alloc, &list, &mut source, machine, rack, &mut clock);
+    assert_eq!(rt; status, want.0);
+    assert!(rt; machine.said().get(before..) == Some(want.1));
+    Ok(machine)
+}
+
+/// A run over an input in pieces, whose read of this number fails, and 0 is none.
+fn ran(
+    rt: &impl Abort,
+    alloc: Global,
+    machine: MemMachine,
+    input: &[u8],
+    failing: u64,
+    want: (u8, &[u8]),
+) -> Result<MemMachine, Fail> {
+    let mut source = MemSource::new(Vec::from_slice(alloc, input)?, 64);
+    source.fail_call(alloc, failing)?;
+    called(rt, alloc, &["run"], source, machine, want)
+}
+
+/// A disk that `mkfs` made.
+fn made(rt: &impl Abort, alloc: Global) -> Result<MemMachine, Fail> {
+    let source = MemSource::new(Vec::new(alloc), 1);
+    let machine = MemMachine::new(alloc, BLOCKS)?;
+    called(rt, alloc, &["mkfs"], source, machine, (0, b"made\n"))
+}
+
+/// The machine of an image.
+fn machine_of(alloc: Global, image: &[u8]) -> Result<MemMachine, Fail> {
+    if image.len() % 4096 == 0 && image.len() / 4096 < 4_294_967_296 {
+        Ok(MemMachine::of_image(alloc, image)?)
+    } else {
+        Err(Fail::from(AllocError))
     }
 }
 
-#[test]
-fn lines_are_answered_in_order_however_they_come_in_pieces(rt: HostRuntime) -> Result<(), Fail> {
-    for piece in [1, 7, 5000] {
-        if piece >= 1 {
-            ran(
-                &rt,
-                rt.alloc(),
-                DAY,
-                piece,
-                (0, 0),
-                (0, b"ok\nok\ndata 6869\n"),
-            )?;
+/// The place among these texts of what `list /` says on an image.
+fn listed(rt: &impl Abort, alloc: Global, image: &[u8], texts: &[&[u8]]) -> Result<usize, Fail> {
+    let mut source = MemSource::new(Vec::from_slice(alloc, b"list /\n")?, 64);
+    let mut clock = MemClock::new(Vec::new(alloc));
+    let volumes: Vec<MemVolume> = Vec::new(alloc);
+    let Ok(rack) = Rack::new(alloc, volumes) else {
+        return Err(Fail::from(AllocError));
+    };
+    let mut words = Vec::new(alloc);
+    words.push(String::from_str(alloc, "run")?)?;
+    let machine = machine_of(alloc, image)?;
+    let ended = highlight(alloc, &words, &mut source, machine, rack, &mut clock);
+    assert_eq!(rt; ended.status, 0);
+    match texts.iter().position(|text| ended.machine.said() == *text) {
+        Some(place) => Ok(place),
+        None => panic!(rt; "a tree of no first lines"),
+    }
+}
+
+/// Every image that a stop may leave since a moment holds one of these trees, and none that comes before the first of
+/// those that an earlier moment leaves.
+fn stops(
+    rt: &impl Abort,
+    alloc: Global,
+    machine: &MemMachine,
+    since: u64,
+    texts: &[&[u8]],
+) -> Result<(), Fail> {
+    let mut least = 0;
+    for moment in since..machine.now() {
+        let mut lowest = texts.len();
+        for tear in [Tear::Old, Tear::New, Tear::Prefix(5000), Tear::Filled(255)] {
+            let image = machine.stop_image(alloc, moment, tear)?;
+            lowest = lowest.min(listed(rt, alloc, &image, texts)?);
         }
+        assert!(rt; lowest >= least, "moment {moment}");
+        least = lowest;
     }
     Ok(())
 }
 
 #[test]
 fn each_script_says_its_answers(rt: HostRuntime) -> Result<(), Fail> {
-    let rows: [(&[u8], u8, &[u8]); 20] = [
+    let rows: [(&[u8], u8, &[u8]); 24] = [
         (b"", 0, b""),
         (b"create /a", 0, b"ok\n"),
         (b"create /a\n\n", 3, b"ok\nbad line 2\n"),
         (b"\n", 3, b"bad line 1\n"),
         (b"create /a\nfrob\ncreate /b\n", 3, b"ok\nbad line 2\n"),
-        (b"create /a\nmkdir /d\n", 3, b"ok\nbad line 2\n"),
         (b"copy\n", 3, b"bad line 1\n"),
         (b"create  /a\n", 3, b"bad line 1\n"),
         (b"create /a \n", 3, b"bad line 1\n"),
@@ -90,9 +136,9 @@ fn each_script_says_its_answers(rt: HostRuntime) -> Result<(), Fail> {
         (b"read /a 18446744073709551616 0", 3, b"bad line 1\n"),
         (b"read / 0 1\ncreate /\n", 0, b"err EISDIR\nerr EEXIST\n"),
         (
-            b"read /a/b 0 1\ncreate /a\nread /a/b 0 1\ncreate /a\ncreate /a/b\n",
+            b"read /a/b 0 1\ncreate /a\nread /a/b 0 1\nlist /\n",
             0,
-            b"err ENOENT\nok\nerr ENOTDIR\nerr EEXIST\nerr ENOTDIR\n",
+            b"err ENOENT\nok\nerr ENOTDIR\nnames a\n",
         ),
         (
             b"create /a\nwrite /a 2 61\nread /a 0 9\nread /a 3 9\nread /a 9 9\n",
@@ -100,9 +146,14 @@ fn each_script_says_its_answers(rt: HostRuntime) -> Result<(), Fail> {
             b"ok\nok\ndata 000061\ndata\ndata\n",
         ),
         (
-            b"create /a\nwrite /a 4243455 01\nwrite /a 4243455 0102\nread /a 4243455 5\n",
+            b"create /a\nwrite /a 4243455 01\nwrite /a 4243455 0102\n",
             0,
-            b"ok\nok\nerr EFBIG\ndata 01\n",
+            b"ok\nerr ENOSPC\nerr EFBIG\n",
+        ),
+        (
+            b"create /a\ncut /a 4194293\ncut /a 4194294\nstat /a\nsync\ncreate /b\nunlink /a\ncreate /b\n",
+            0,
+            b"ok\nok\nerr ENOSPC\nfile 4194293\nok\nerr ENOSPC\nok\nok\n",
         ),
         (
             b"create /a\nwrite /a 0 61626364\nwrite /a 1 7a7a\nread /a 0 4\n",
@@ -110,72 +161,146 @@ fn each_script_says_its_answers(rt: HostRuntime) -> Result<(), Fail> {
             b"ok\nok\nok\ndata 617a7a64\n",
         ),
         (b"create /%\n", 3, b"bad line 1\n"),
+        (DAY, 0, b"ok\nok\nok\nok\nnames m\nok\ndata 6869\n"),
+        (
+            b"mkdir /d\nrmdir /d\nrmdir /d\n",
+            0,
+            b"ok\nok\nerr ENOENT\n",
+        ),
+        (b"create /a\nunlink /a\nstat /\n", 0, b"ok\nok\ndir 0\n"),
+        (b"sync\nsync\n", 0, b"ok\nok\n"),
     ];
     for row in rows {
-        ran(&rt, rt.alloc(), row.0, 64, (0, 0), (row.1, row.2))?;
+        let alloc = rt.alloc();
+        ran(&rt, alloc, made(&rt, alloc)?, row.0, 0, (row.1, row.2))?;
     }
     Ok(())
 }
 
 #[test]
-fn each_failing_device_has_its_status(rt: HostRuntime) -> Result<(), Fail> {
-    let rows: [((u64, u64), u8, &[u8]); 5] = [
-        ((1, 0), 7, b""),
-        ((3, 0), 7, b"ok\n"),
-        ((0, 1), 6, b"o"),
-        ((0, 2), 6, b"ok\no"),
-        ((0, 3), 6, b"ok\nok\ndata "),
-    ];
-    for row in rows {
-        ran(&rt, rt.alloc(), DAY, 10, row.0, (row.1, row.2))?;
-    }
-    Ok(())
-}
-
-#[test]
-fn a_line_may_have_140000_bytes(rt: HostRuntime) -> Result<(), Fail> {
+fn a_later_run_finds_what_an_earlier_one_left(rt: HostRuntime) -> Result<(), Fail> {
     let alloc = rt.alloc();
-    let mut line = Vec::new(alloc);
-    line.resize(140_000, b'x')?;
-    ran(&rt, alloc, &line, 4096, (0, 0), (3, b"bad line 1\n"))?;
-    line.push(b'x')?;
-    ran(&rt, alloc, &line, 4096, (0, 0), (10, b""))?;
-    let mut second = Vec::from_slice(alloc, b"create /a\n")?;
-    second.extend_from_slice(&line)?;
-    ran(&rt, alloc, &second, 4096, (0, 0), (10, b"ok\n"))
-}
-
-#[test]
-fn a_read_gives_at_most_32768_bytes(rt: HostRuntime) -> Result<(), Fail> {
-    let alloc = rt.alloc();
-    let mut said = Vec::from_slice(alloc, b"ok\nok\ndata ")?;
-    said.resize(said.len() + 65_536, b'0')?;
-    said.push(b'\n')?;
+    let day = b"ok\nok\nok\nok\nnames m\nok\ndata 6869\n";
+    let mut machine = ran(&rt, alloc, made(&rt, alloc)?, DAY, 0, (0, day))?;
+    machine = ran(
+        &rt,
+        alloc,
+        machine,
+        b"create /b\n?\n",
+        0,
+        (3, b"ok\nbad line 2\n"),
+    )?;
+    let mut long = Vec::from_slice(alloc, b"create /c\n")?;
+    long.resize(140_011, b'x')?;
+    machine = ran(&rt, alloc, machine, &long, 0, (10, b"ok\n"))?;
+    let mut many = Vec::from_slice(alloc, b"create /e\n")?;
+    many.resize(70, b' ')?;
+    machine = ran(&rt, alloc, machine, &many, 2, (7, b"ok\n"))?;
+    let want = b"names b c d e\ndata 6869\n";
     ran(
         &rt,
         alloc,
-        b"create /a\nwrite /a 50000 01\nread /a 0 40000\n",
-        4096,
-        (0, 0),
-        (0, &said),
+        machine,
+        b"list /\nread /d/m 0 9\n",
+        0,
+        (0, want),
+    )?;
+    Ok(())
+}
+
+#[test]
+fn a_disk_that_fails_keeps_what_was_synced(rt: HostRuntime) -> Result<(), Fail> {
+    let alloc = rt.alloc();
+    let empty = ran(&rt, alloc, made(&rt, alloc)?, b"", 0, (0, b""))?;
+    let mut machine = made(&rt, alloc)?;
+    let since = machine.now();
+    // A run over no lines mounts, and closes by four calls; a line is one call, and a sync five.
+    let mounted = (empty.now() / 2).saturating_sub(4);
+    machine.fail_call(alloc, mounted.saturating_add(8))?;
+    let script = b"create /a\nsync\ncreate /b\nsync\nlist /\n";
+    let want = b"ok\nok\nok\nerr EIO\n";
+    let machine = ran(&rt, alloc, machine, script, 0, (5, want))?;
+    stops(
+        &rt,
+        alloc,
+        &machine,
+        since,
+        &[b"names\n", b"names a\n", b"names a b\n"],
     )
 }
 
 #[test]
-fn other_words_are_told_the_usage(rt: HostRuntime) -> Result<(), Fail> {
+fn a_stop_leaves_the_files_after_some_first_lines(rt: HostRuntime) -> Result<(), Fail> {
     let alloc = rt.alloc();
+    let mut machine = made(&rt, alloc)?;
+    let since = machine.now();
+    let script = b"create /a\nsync\nrename /a /b\nmkdir /c\nsync\nunlink /b\n";
+    machine = ran(
+        &rt,
+        alloc,
+        machine,
+        script,
+        0,
+        (0, b"ok\nok\nok\nok\nok\nok\n"),
+    )?;
+    stops(
+        &rt,
+        alloc,
+        &machine,
+        since,
+        &[b"names\n", b"names a\n", b"names b c\n", b"names c\n"],
+    )
+}
+
+#[test]
+fn a_disk_is_refused_by_name(rt: HostRuntime) -> Result<(), Fail> {
+    let alloc = rt.alloc();
+    for word in ["mkfs", "run"] {
+        let source = MemSource::new(Vec::new(alloc), 1);
+        let machine = MemMachine::new(alloc, BLOCKS - 1)?;
+        called(
+            &rt,
+            alloc,
+            &[word],
+            source,
+            machine,
+            (9, b"bad site small 2112\n"),
+        )?;
+    }
+    let blank = MemMachine::new(alloc, BLOCKS)?;
+    ran(&rt, alloc, blank, b"", 0, (4, b"no label\n"))?;
+    let disk = made(&rt, alloc)?;
+    let mut image = disk.stop_image(alloc, disk.now(), Tear::Old)?;
+    if let Some(byte) = image.as_mut_slice().get_mut(4096 + 20) {
+        *byte ^= 1;
+    }
+    let changed = machine_of(alloc, &image)?;
+    ran(&rt, alloc, changed, b"", 0, (4, b"no record\n"))?;
+    Ok(())
+}
+
+#[test]
+fn each_limit_and_each_form_has_its_answer(rt: HostRuntime) -> Result<(), Fail> {
+    let alloc = rt.alloc();
+    let mut line = Vec::new(alloc);
+    line.resize(140_000, b'x')?;
+    let mut machine = made(&rt, alloc)?;
+    machine = ran(&rt, alloc, machine, &line, 0, (3, b"bad line 1\n"))?;
+    line.push(b'x')?;
+    machine = ran(&rt, alloc, machine, &line, 0, (10, b""))?;
+    let mut said = Vec::from_slice(alloc, b"ok\nok\ndata ")?;
+    said.resize(65_547, b'0')?;
+    said.push(b'\n')?;
+    let long = b"create /a\nwrite /a 50000 01\nread /a 0 40000\n";
+    ran(&rt, alloc, machine, long, 0, (0, &said))?;
     let usage: &[u8] = b"usage: highlight mkfs | run | check | make SEED COUNT | crew\n";
-    let rows: [&[&str]; 4] = [&[], &["frob"], &["run", "run"], &["--help"]];
+    let rows: [&[&str]; 4] = [&[], &["check"], &["run", "run"], &["--help"]];
     for row in rows {
-        let mut words = Vec::new(alloc);
-        for word in row {
-            words.push(String::from_str(alloc, word)?)?;
-        }
         let source = MemSource::new(Vec::new(alloc), 1);
         called(
             &rt,
             alloc,
-            &words,
+            row,
             source,
             MemMachine::new(alloc, 0)?,
             (2, usage),

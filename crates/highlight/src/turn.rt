@@ -3,43 +3,17 @@
 ghost use Rattle.std.specs.Prelude.{◌≡◌, ◌≤◌, ◌<◌, IsTrue, OnOk, OnErr, IfOk, IfSome, Err};
 ghost use Rattle.std.specs.Io.KnownBytes.{prepend_known};
 ghost use Rattle.hl_media.specs.Causes.{Rose};
-ghost use Rattle.hl_media.specs.Saying.{OnlySays};
-ghost use Rattle.hl_script.specs.declared.line.Line.{Line};
-ghost use Rattle.highlight.specs.Run.{IsBad, bad_text};
-ghost use Rattle.highlight.specs.Turn.{Answers, SaysOrFails, Turns};
+ghost use Rattle.hl_world.specs.Worlds.{IsReady};
+ghost use Rattle.highlight.specs.Run.{bad_text};
+ghost use Rattle.highlight.specs.Turn.{SaysOrFails, Turns, held};
 
+use crate::answering::{answer, tell};
 use crate::end::End;
-use crate::served::is_served;
-use hl_media::{Clock, Failed, Machine, Source};
-use hl_script::{BadLine, LineFault, Lines, print_answer, read_line};
+use hl_media::{Clock, Machine, Source};
+use hl_script::{BadLine, LineFault, Lines};
 use hl_world::World;
 use itoa::Buffer;
 use std::alloc::{AllocError, Global};
-
-/// Does the line that has these bytes, and gives the text of its answer. The clock is asked once, before the line is done.
-fn answer<M: Machine, C: Clock>(
-    alloc: Global,
-    world: &mut World<M>,
-    clock: &mut C,
-    bytes: &[u8],
-) -> Result<Vec<u8>, BadLine>
-    ensures machine { world.new.machine ≡ world.old.machine }
-    ensures ok { IfOk result (λ text. (line : Line) × Answers world.old.files world.new.files bytes.now text.items line) }
-    ensures bad { result ≡ Err BadLine.Bad → IsBad bytes.now }
-{
-    let line = read_line(alloc, bytes)?;
-    if !is_served(&line) {
-        return Err(BadLine::Bad);
-    }
-    let now = clock.now();
-    let said = world.line(alloc, &line, now);
-    if said.is_memory() {
-        return Err(BadLine::Memory);
-    }
-    let mut text = Vec::new(alloc);
-    print_answer(alloc, &said, &mut text)?;
-    Ok(text)
-}
 
 fn bad_line(alloc: Global, n: u64) -> Result<Vec<u8>, AllocError>
     ensures { IfOk result (λ text. text.items ≡ bad_text n) }
@@ -56,7 +30,7 @@ fn say_bad<M: Machine>(alloc: Global, world: &mut World<M>, n: u64) -> Result<()
     ensures ok { OnOk result (SaysOrFails (Rose (M.say_faults world.old.machine) (M.say_faults world.new.machine))
         (M.history world.old.machine) (M.history world.new.machine) (bad_text n)) }
     ensures err { OnErr result (M.history world.new.machine ≡ M.history world.old.machine) }
-    ensures files { world.new.files ≡ world.old.files }
+    ensures held { held world.new ≡ held world.old }
     ensures blocks { M.blocks world.new.machine ≡ M.blocks world.old.machine }
     ensures faults { M.faults world.new.machine ≡ M.faults world.old.machine }
     ensures write_faults { M.write_faults world.new.machine ≡ M.write_faults world.old.machine }
@@ -77,13 +51,13 @@ pub fn turn<S: Source, M: Machine, C: Clock>(
     clock: &mut C,
     n: u64,
 ) -> Result<bool, End>
+    requires room { 2112 ≤ M.blocks world.old.machine }
+    requires ready { IsReady world.old }
+    ensures ready { IsReady world.new }
     ensures turns { IfSome (prepend_known lines.old.held (S.left input.old)) (λ bytes.
-        Turns (Rose (M.say_faults world.old.machine) (M.say_faults world.new.machine)) n lines.old lines.new world.old.files world.new.files bytes (prepend_known lines.new.held (S.left input.new))
-        (M.history world.old.machine) (M.history world.new.machine) result) }
-    ensures says { OnlySays (M.history world.old.machine) (M.history world.new.machine) }
+        Turns (Rose (M.say_faults world.old.machine) (M.say_faults world.new.machine)) (M.blocks world.old.machine) n lines.old lines.new (held world.old) (held world.new)
+        bytes (prepend_known lines.new.held (S.left input.new)) (M.history world.old.machine) (M.history world.new.machine) result) }
     ensures blocks { M.blocks world.new.machine ≡ M.blocks world.old.machine }
-    ensures faults { M.faults world.new.machine ≡ M.faults world.old.machine }
-    ensures write_faults { M.write_faults world.new.machine ≡ M.write_faults world.old.machine }
     ensures progress { IfOk result (λ more. IsTrue more → lines.old.used < lines.new.used) }
     ensures counted { IfOk result (λ _. lines.new.used ≤ lines.new.limit) }
     ensures limit { lines.new.limit ≡ lines.old.limit }
@@ -91,6 +65,8 @@ pub fn turn<S: Source, M: Machine, C: Clock>(
     ensures input_later { S.faults input.old ≤ S.faults input.new }
     ensures output { result ≡ Err End.Output → Rose (M.say_faults world.old.machine) (M.say_faults world.new.machine) }
     ensures output_later { M.say_faults world.old.machine ≤ M.say_faults world.new.machine }
+    ensures broken { result ≡ Err End.Broken → Rose (M.faults world.old.machine) (M.faults world.new.machine) × Rose (M.write_faults world.old.machine) (M.write_faults world.new.machine) }
+    ensures disk_later { (M.faults world.old.machine ≤ M.faults world.new.machine) × (M.write_faults world.old.machine ≤ M.write_faults world.new.machine) }
     ensures others { result ≡ Err End.Finished → ⊥ }
 {
     let mut bytes = Vec::new(alloc);
@@ -102,10 +78,7 @@ pub fn turn<S: Source, M: Machine, C: Clock>(
         Err(LineFault::Memory) => return Err(End::Memory),
     }
     match answer(alloc, world, clock, &bytes) {
-        Ok(text) => match world.say(&text) {
-            Ok(()) => Ok(true),
-            Err(Failed) => Err(End::Output),
-        },
+        Ok(told) => tell(world, &told),
         Err(BadLine::Memory) => Err(End::Memory),
         Err(BadLine::Bad) => match say_bad(alloc, world, n) {
             Ok(()) => Err(End::BadLine),

@@ -1,30 +1,10 @@
-use Rattle.std.proofs.Common.{◌<◌, ◌∙◌, [], refl, arith}
+use Rattle.std.proofs.Common.{◌≡◌, ◌≤◌, ◌<◌, ◌∙◌, ℕ, Err, ap, subst, refl, arith}
+use Rattle.std.specs.Prelude.{IfSome}
 use Rattle.std.specs.Io.KnownBytes.{prepend_known}
 use Rattle.hl_media.specs.Causes.{Rose}
-use Rattle.hl_media.proofs.Sayings.{says_nothing, only_says_more}
-use Rattle.hl_tree.specs.Tree.{root_alone}
-use Rattle.highlight.specs.Run.{file_limits}
+use Rattle.highlight.specs.Turn.{held, Turns}
 use Rattle.highlight.proofs.Turning.{stands_first, stands_more, ran_from_turn, ran_to_the_end, ran_not_at_all}
 use Rattle.highlight.proofs.run.run.Goals as goal
-
-pub turns-preserved : goal.turns-preserved
-turns-preserved g c =
-    let r = c.in-Ok-true.ensures in
-    let i = c.turns.invariant in
-    let grew : c.turns.lines.used < c.turn.new.lines.used = r.progress c.in-Ok-true.field-0-test in
-    record {
-      counted = omega (arith, r.counted, r.limit, i.limit);
-      limit = omega (arith, r.limit, i.limit);
-      few = omega (arith, grew, i.few);
-      input_later = omega (arith, r.input_later, i.input_later);
-      output_later = omega (arith, r.output_later, i.output_later);
-      blocks = r.blocks ∙ i.blocks;
-      faults = r.faults ∙ i.faults;
-      write_faults = r.write_faults ∙ i.write_faults;
-      says = only_says_more _ _ _ i.says r.says;
-      stands =
-          stands_more file_limits root_alone (Rose (g.M.Machine.say_faults c.turns.world.machine) (g.M.Machine.say_faults c.turn.new.world.machine)) _ _ _ _ c.turns.lines c.turn.new.lines _ _ _ _ _ i.stands (rw c.in-Ok-true.field-0-test at r.turns);
-    }
 
 pub turns-init : goal.turns-init
 turns-init g c =
@@ -35,34 +15,50 @@ turns-init g c =
       few = omega arith;
       input_later = omega arith;
       output_later = omega arith;
+      disk_later = (omega arith, omega arith);
       blocks = refl;
-      faults = refl;
-      write_faults = refl;
-      says = ([], says_nothing (g.M.Machine.history c.args.world.now.machine));
-      stands = rw fresh (stands_first file_limits root_alone _ _ _ c.requires (says_nothing (g.M.Machine.history c.args.world.now.machine)));
+      ready = c.requires.ready;
+      stands = rw fresh (stands_first (g.M.Machine.blocks c.args.world.now.machine) (held c.args.world.now) _ _ c.requires.ready.limits c.requires.opens);
+    }
+
+pub turns-preserved : goal.turns-preserved
+turns-preserved g c =
+    let r = c.in-Ok-true.ensures in
+    let i = c.turns.invariant in
+    let grew : c.turns.lines.used < c.turn.new.lines.used = r.progress c.in-Ok-true.field-0-test in
+    let blocks = i.blocks in
+    record {
+      counted = omega (arith, r.counted, r.limit, i.limit);
+      limit = omega (arith, r.limit, i.limit);
+      few = omega (arith, grew, i.few);
+      input_later = omega (arith, r.input_later, i.input_later);
+      output_later = omega (arith, r.output_later, i.output_later);
+      disk_later = (omega (arith, r.disk_later.0, i.disk_later.0), omega (arith, r.disk_later.1, i.disk_later.1));
+      blocks = r.blocks ∙ i.blocks;
+      ready = r.ready;
+      stands =
+          stands_more (g.M.Machine.blocks c.args.world.now.machine) (held c.args.world.now) (Rose (g.M.Machine.say_faults c.turns.world.machine) (g.M.Machine.say_faults c.turn.new.world.machine)) (held c.turns.world) (held c.turn.new.world) _ _ _ _
+          c.turns.lines c.turn.new.lines _ _ _ i.stands (rw (c.in-Ok-true.field-0-test, blocks) at r.turns);
     }
 
 pub returns-in-Err-clause-ran : goal.returns-in-Err-clause-ran
-returns-in-Err-clause-ran g c = ran_not_at_all file_limits root_alone _ 4294967296 _ _
+returns-in-Err-clause-ran g c = ran_not_at_all (g.M.Machine.blocks c.args.world.now.machine) (held c.args.world.now) _ _ 4294967296 (held c.args.world.now) _ _ c.requires.ready.limits c.requires.opens
 
 pub returns-in-Ok-false-clause-ran : goal.returns-in-Ok-false-clause-ran
 returns-in-Ok-false-clause-ran g c =
     let r = c.in-Ok-false.ensures in
     let i = c.turns.invariant in
-    ran_to_the_end file_limits root_alone (Rose (g.M.Machine.say_faults c.turns.world.machine) (g.M.Machine.say_faults c.turn.new.world.machine)) _ 4294967296 _ (prepend_known c.turns.lines.held (g.S.Source.left c.turns.input))
-    (prepend_known c.turn.new.lines.held (g.S.Source.left c.turn.new.input)) c.turns.n c.turns.lines c.turn.new.lines
-    c.turns.world.files c.turn.new.world.files _ _ _ i.counted i.stands (rw c.in-Ok-false.field-0-test at r.turns)
-
-pub returns-in-Ok-false-clause-says : goal.returns-in-Ok-false-clause-says
-returns-in-Ok-false-clause-says g c = only_says_more _ _ _ c.turns.invariant.says c.in-Ok-false.ensures.says
+    let blocks = i.blocks in
+    ran_to_the_end (g.M.Machine.blocks c.args.world.now.machine) (held c.args.world.now) (Rose (g.M.Machine.say_faults c.turns.world.machine) (g.M.Machine.say_faults c.turn.new.world.machine)) _ _ 4294967296 (held c.turns.world) (held c.turn.new.world) _ (prepend_known c.turns.lines.held (g.S.Source.left c.turns.input))
+    (prepend_known c.turn.new.lines.held (g.S.Source.left c.turn.new.input)) c.turns.n c.turns.lines c.turn.new.lines _ _ _ i.counted i.stands (rw c.in-Ok-false.field-0-test at r.turns)
 
 pub returns-in-Err-turn-clause-ran : goal.returns-in-Err-turn-clause-ran
 returns-in-Err-turn-clause-ran g c =
     let r = c.in-Err-turn.ensures in
     let i = c.turns.invariant in
-    ran_from_turn file_limits root_alone (Rose (g.M.Machine.say_faults c.turns.world.machine) (g.M.Machine.say_faults c.turn.new.world.machine)) _ (λ rose. omega (arith, rose, i.output_later)) 4294967296 _ (prepend_known c.turns.lines.held (g.S.Source.left c.turns.input))
-    (prepend_known c.turn.new.lines.held (g.S.Source.left c.turn.new.input)) c.turns.n c.turns.lines c.turn.new.lines
-    c.turns.world.files c.turn.new.world.files _ _ _ c.in-Err-turn.end i.limit i.counted i.stands r.turns
-
-pub returns-in-Err-turn-clause-says : goal.returns-in-Err-turn-clause-says
-returns-in-Err-turn-clause-says g c = only_says_more _ _ _ c.turns.invariant.says c.in-Err-turn.ensures.says
+    let blocks = i.blocks in
+    ran_from_turn (g.M.Machine.blocks c.args.world.now.machine) (held c.args.world.now) (Rose (g.M.Machine.say_faults c.turns.world.machine) (g.M.Machine.say_faults c.turn.new.world.machine)) _ _ (λ rose. omega (arith, rose, i.output_later)) 4294967296 (held c.turns.world) (held c.turn.new.world) _ (prepend_known c.turns.lines.held (g.S.Source.left c.turns.input))
+    (prepend_known c.turn.new.lines.held (g.S.Source.left c.turn.new.input)) c.turns.n c.turns.lines c.turn.new.lines _ _ _ c.in-Err-turn.end
+    (λ broken. let rose = (r.broken (ap (λ e. Err e) broken)).1 in omega (arith, rose, i.disk_later.1)) i.limit i.counted i.stands
+    (subst (λ (b : ℕ). IfSome (prepend_known c.turns.lines.held (g.S.Source.left c.turns.input)) (λ bytes. Turns (Rose (g.M.Machine.say_faults c.turns.world.machine) (g.M.Machine.say_faults c.turn.new.world.machine)) b c.turns.n c.turns.lines c.turn.new.lines
+    (held c.turns.world) (held c.turn.new.world) bytes (prepend_known c.turn.new.lines.held (g.S.Source.left c.turn.new.input)) (g.M.Machine.history c.turns.world.machine) (g.M.Machine.history c.turn.new.world.machine) (Err c.in-Err-turn.end))) blocks r.turns)

@@ -1,8 +1,7 @@
 use Rattle.std.proofs.Common.{◌≡◌, ◌≤◌, ◌+◌, ◌-◌}
 use Rattle.std.specs.Io.KnownBytes.{prepend_known}
-use Rattle.hl_media.specs.Saying.{OnlySays}
-use Rattle.hl_tree.specs.Tree.{root_alone}
-use Rattle.highlight.specs.Run.{file_limits}
+use Rattle.hl_world.specs.Worlds.{IsReady}
+use Rattle.highlight.specs.Turn.{held}
 use Rattle.highlight.proofs.Turning.{Stands}
 use Rattle.highlight.proofs.run.run.Given as goal
 
@@ -13,12 +12,11 @@ invariant-turns g l = record {
   few : l.n ≤ l.lines.used + 1;
   input_later : g.S.Source.faults l.fn.input ≤ g.S.Source.faults l.input;
   output_later : g.M.Machine.say_faults l.fn.world.machine ≤ g.M.Machine.say_faults l.world.machine;
+  disk_later : (g.M.Machine.faults l.fn.world.machine ≤ g.M.Machine.faults l.world.machine) × (g.M.Machine.write_faults l.fn.world.machine ≤ g.M.Machine.write_faults l.world.machine);
   blocks : g.M.Machine.blocks l.world.machine ≡ g.M.Machine.blocks l.fn.world.machine;
-  faults : g.M.Machine.faults l.world.machine ≡ g.M.Machine.faults l.fn.world.machine;
-  write_faults : g.M.Machine.write_faults l.world.machine ≡ g.M.Machine.write_faults l.fn.world.machine;
-  says : OnlySays (g.M.Machine.history l.fn.world.machine) (g.M.Machine.history l.world.machine);
+  ready : IsReady l.world;
   stands :
-      Stands file_limits root_alone (g.S.Source.left l.fn.input) (prepend_known l.lines.held (g.S.Source.left l.input)) l.n l.lines.used l.world.files
+      Stands (g.M.Machine.blocks l.fn.world.machine) (held l.fn.world) (held l.world) (g.S.Source.left l.fn.input) (prepend_known l.lines.held (g.S.Source.left l.input)) l.n l.lines.used
       (g.M.Machine.history l.fn.world.machine) (g.M.Machine.history l.world.machine);
 }
 
