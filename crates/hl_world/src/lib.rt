@@ -8,6 +8,3 @@ mod world;
 pub use fault::CloseFault;
 pub use hl_disk::MountError;
 pub use world::World;
-
-#[cfg(test)]
-mod tests;
