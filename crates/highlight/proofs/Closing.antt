@@ -1,8 +1,8 @@
 -- A run between its mount and its closing.
-use Rattle.std.proofs.Common.{◌≡◌, ◌⊎◌, ◌≤◌, ◌+◌, inl, inr, ⊎_elim, ℕ, Bool, true, false, IsTrue, List, [], ◌∷◌, ◌++◌, length, Option, Some, None, Result, Ok, Err, OnOk, refl, sym, ap, subst, ◌∙◌, arith, append-nil}
+use Rattle.std.proofs.Common.{◌≡◌, ◌+◌, inl, inr, ⊎_elim, ℕ, true, false, IsTrue, List, [], ◌∷◌, ◌++◌, length, Option, Some, None, Result, Ok, Err, OnOk, refl, sym, ap, subst, ◌∙◌, arith, append-nil}
 use Rattle.std.specs.Prelude.{IfSome}
 use Rattle.std.proofs.lemmas.List.{append_cancel_left}
-use Rattle.hl_media.specs.History.{DeviceCall, History, Image, MachineState, content, state_now, with_calls}
+use Rattle.hl_media.specs.History.{DeviceCall, History, MachineState, state_now, with_calls}
 use Rattle.hl_media.specs.Moments.{AtEach, AtEachMomentSince, Now, Runs}
 use Rattle.hl_media.specs.Moments.{Ends as LastMoment}
 use Rattle.hl_media.proofs.Runs.{goes_on, ends_then, ends_of_run, at_each_moment, AtEach-map}
@@ -13,11 +13,11 @@ use Rattle.hl_dump.specs.Dumps.{dump_limits}
 use Rattle.hl_disk.specs.Disks.{StandsFor}
 use Rattle.hl_disk.specs.Saves.{IsSaving, HasSaved}
 use Rattle.hl_disk.specs.Stops.{IsSettled}
-use Rattle.highlight.specs.Run.{DoneLine, Ends, Ran, RanBy, RanOver, OpensWith, Moment, HasSaid, IsPoint, KeepsLines, closes, tree_after, tree_at, last_sync, answers, whole_lines}
+use Rattle.highlight.specs.Run.{DoneLine, Ends, Ran, RanBy, OpensWith, Moment, IsPoint, KeepsLines, closes, tree_after, tree_at, last_sync, answers, whole_lines}
 use Rattle.highlight.specs.Turn.{Held}
-use Rattle.highlight.specs.Runs.{OpensAs, Rests, LeavesLines}
+use Rattle.highlight.specs.Runs.{Rests, LeavesLines}
 use Rattle.highlight.proofs.Hearing.{whole_lines-append, whole_lines-answers}
-use Rattle.highlight.proofs.Points.{Reaches, wider, reaches_either, last_sync_le, last_sync-past, tree_at-all}
+use Rattle.highlight.proofs.Points.{reaches_either, last_sync_le, last_sync-past, tree_at-all}
 use Rattle.highlight.proofs.Turning.{now_then, never}
 use Rattle.highlight.specs.declared.end.End.{End}
 use Rattle.highlight.specs.declared.end.End.TheVariants.{Finished, BadLine, Output, Broken, Input, Memory, TooLong}

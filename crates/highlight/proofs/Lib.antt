@@ -6,3 +6,4 @@ pub mod Points
 pub mod Turning
 pub mod Alone
 pub mod Closing
+pub mod Complete

@@ -14,7 +14,6 @@ use Rattle.hl_script.specs.Input.{Ahead, Gives, Cuts, lines_of, beyond}
 use Rattle.hl_disk.specs.Saves.{IsSaving}
 use Rattle.hl_world.specs.Worlds.{Does, KeepsDisk, is_eio}
 use Rattle.highlight.specs.Served.{is_served}
-use Rattle.highlight.specs.Run.{DoneLine}
 use Rattle.highlight.specs.Turn.{Held, Answers, IsFirstLine, SaysOrFails, Step, Tells, Turns}
 use Rattle.highlight.specs.declared.end.End.{End}
 use Rattle.highlight.specs.declared.end.End.TheVariants.{Finished, BadLine, Output, Broken, Input, Memory, TooLong}

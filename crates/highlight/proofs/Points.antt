@@ -1,14 +1,14 @@
 -- The trees of a run, and which of them a stop leaves.
-use Rattle.std.proofs.Common.{◌≡◌, ◌⊎◌, inl, inr, ⊎_elim, ℕ, zero, suc, ◌+◌, ◌≤◌, Bool, true, false, if◌then◌else◌, List, [], ◌∷◌, ◌++◌, length, take, Option, Some, None, refl, sym, ◌∙◌, ap, subst, arith, add-one}
+use Rattle.std.proofs.Common.{◌≡◌, ⊎_elim, ℕ, zero, suc, ◌+◌, ◌≤◌, Bool, true, false, if◌then◌else◌, List, [], ◌∷◌, ◌++◌, length, take, Option, Some, None, refl, sym, ◌∙◌, ap, subst, arith}
 use Rattle.std.specs.Prelude.{slice_get}
-use Rattle.hl_media.specs.History.{Image, MachineState, MayLeave, IsUntouched, PendingWrite}
+use Rattle.hl_media.specs.History.{Image, MachineState, IsUntouched, PendingWrite}
 use Rattle.hl_tree.specs.declared.call.Limits.{Limits}
 use Rattle.hl_tree.specs.Rules.{Files}
 use Rattle.hl_disk.specs.Disks.{StandsFor, Holds}
 use Rattle.hl_disk.specs.Stops.{NoChance, StopLeaves, IsSettled}
 use Rattle.hl_disk.specs.Saves.{HoldsEither}
 use Rattle.hl_disk.proofs.Settled.{settled_leaves}
-use Rattle.highlight.specs.Run.{DoneLine, tree_after_line, tree_after, tree_at, is_kept, last_sync, IsPoint}
+use Rattle.highlight.specs.Run.{DoneLine, tree_after, tree_at, is_kept, last_sync}
 
 -- ---- lines and more lines
 

@@ -1,5 +1,5 @@
 -- A run, turn by turn.
-use Rattle.std.proofs.Common.{suc, zero, ◌≡◌, ◌⊎◌, ◌≤◌, ◌<◌, ◌+◌, ℕ, Bool, true, false, IsTrue, if◌then◌else◌, List, [], ◌∷◌, ◌++◌, length, map, Some, None, Ok, Err, Option, refl, sym, ap, subst, ◌∙◌, arith, append_assoc, append-nil, length-append, inl, inr, ⊎_elim}
+use Rattle.std.proofs.Common.{suc, zero, ◌≡◌, ◌⊎◌, ◌≤◌, ◌+◌, ℕ, Bool, true, false, IsTrue, if◌then◌else◌, List, [], ◌∷◌, ◌++◌, length, map, Some, None, Ok, Err, Option, refl, sym, ap, subst, ◌∙◌, arith, append_assoc, append-nil, length-append, inl, inr, ⊎_elim}
 use Rattle.std.specs.Prelude.{IfSome, All}
 use Rattle.std.specs.Io.KnownBytes.{prepend_known}
 use Rattle.std.proofs.lemmas.List.{map-append}
@@ -9,18 +9,15 @@ use Rattle.hl_media.specs.History.{DeviceCall, History, Image, MachineState, sta
 use Rattle.hl_media.specs.History.DeviceCall.{Say}
 use Rattle.hl_media.specs.Moments.{Now, Runs}
 use Rattle.hl_media.specs.Moments.{Ends as LastMoment}
-use Rattle.hl_media.specs.Saying.{Says, SaysSome}
-use Rattle.hl_media.proofs.Runs.{goes_on, ends_then, ends_of_run, starts, now_from, told_before, AtEach-map}
+use Rattle.hl_media.specs.Saying.{Says}
+use Rattle.hl_media.proofs.Runs.{goes_on, ends_then, ends_of_run, starts, told_before, AtEach-map}
 use Rattle.hl_tree.specs.PlainValue.{Plain}
 use Rattle.hl_tree.specs.Rules.{Files}
-use Rattle.hl_tree.specs.declared.call.Call.{Call}
 use Rattle.hl_tree.specs.declared.call.Call.TheVariants as calls
-use Rattle.hl_tree.specs.declared.call.Reply.TheVariants as replies
 use Rattle.hl_tree.specs.declared.call.Limits.{Limits}
 use Rattle.hl_script.specs.declared.line.Line.{Line}
 use Rattle.hl_script.specs.declared.line.Line.TheVariants as line
 use Rattle.hl_script.specs.declared.said.Said.{Said}
-use Rattle.hl_script.specs.declared.said.Said.TheVariants as said
 use Rattle.hl_script.specs.Spelling.{spelling}
 use Rattle.hl_script.specs.Answer.{answer_line}
 use Rattle.hl_script.specs.Input.{Ahead, lines_of, beyond}
@@ -30,11 +27,11 @@ use Rattle.hl_disk.specs.Saves.{IsSaving, HasSaved}
 use Rattle.hl_disk.specs.Stops.{IsSettled}
 use Rattle.hl_disk.proofs.Settled.{nothing_saved}
 use Rattle.hl_world.proofs.Lines.{acknowledged_is}
-use Rattle.hl_world.specs.Worlds.{Does, Answers, Breaks, KeepsDisk, is_acknowledged, is_eio}
-use Rattle.highlight.specs.Run.{DoneLine, IsGood, IsNext, IsPlain, IsBroken, ArePlain, is_reply, tree_after_line, tree_after, tree_at, last_sync, is_kept, answers, whole_lines, IsPart, Ends, Ran, HasSaid, IsPoint, Moment, RanBy, closes, KeepsLimits, PassesLimit, bad_text}
-use Rattle.highlight.specs.Turn.{Held, IsFirstLine, SaysOrFails, Step, Turns}
+use Rattle.hl_world.specs.Worlds.{Does, KeepsDisk, is_eio}
+use Rattle.highlight.specs.Run.{DoneLine, IsGood, IsNext, IsPlain, IsBroken, ArePlain, is_reply, tree_after_line, tree_after, tree_at, last_sync, is_kept, answers, whole_lines, IsPart, Ends, Ran, IsPoint, Moment, RanBy, closes, KeepsLimits, PassesLimit, bad_text}
+use Rattle.highlight.specs.Turn.{Held, IsFirstLine, Step, Turns}
 use Rattle.highlight.specs.Runs.{OpensAs, Rests, LeavesLines}
-use Rattle.highlight.proofs.Hearing.{Heard, HasTold, says_end, text_heard, some_heard, whole_lines-append, whole_lines-answers, whole_lines-part, part_of_answer, has_said, part_of_more, part_behind}
+use Rattle.highlight.proofs.Hearing.{Heard, HasTold, says_end, text_heard, whole_lines-append, whole_lines-answers, whole_lines-part, part_of_answer, has_said, part_of_more, part_behind}
 use Rattle.highlight.proofs.Points.{same_number, same_settled, Reaches, wider, same_reach, more_lines, reaches_settled, reaches_either, last_sync_le, last_sync-more, last_sync-past, last_sync-kept, last_sync-other, tree_at-more, tree_at-all}
 use Rattle.highlight.specs.declared.end.End.{End}
 use Rattle.highlight.specs.declared.end.End.TheVariants.{Finished, BadLine, Output, Broken, Input, Memory, TooLong}

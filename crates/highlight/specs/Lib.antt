@@ -5,3 +5,4 @@ pub mod Turn
 pub mod Runs
 pub mod Makes
 pub mod Statuses
+pub mod Scripts

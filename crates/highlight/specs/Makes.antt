@@ -1,5 +1,5 @@
 -- What the command that makes a disk does.
-use Rattle.std.specs.Prelude.{◌≡◌, ℕ, List, [], ◌++◌, Option}
+use Rattle.std.specs.Prelude.{◌≡◌, ℕ, List, ◌++◌, Option}
 use Rattle.hl_media.specs.History.{History}
 use Rattle.hl_media.specs.Moments.{Now}
 use Rattle.hl_media.specs.Moments.{Ends as LastMoment}

@@ -1,10 +1,11 @@
 //! The top call.
 
-ghost use Rattle.std.specs.Prelude.{◌≡◌, ◌↔◌, ◌≤◌, ◌<◌, map, string_bytes};
+ghost use Rattle.std.specs.Prelude.{◌≡◌, ◌⊎◌, ◌↔◌, ◌≤◌, ◌<◌, map, string_bytes};
 ghost use Rattle.hl_media.specs.Causes.{Rose};
 ghost use Rattle.highlight.specs.Command.{IsForm, IsMkfs, IsRun, small_text, usage_text};
 ghost use Rattle.highlight.specs.Makes.{Makes, status_of_making};
 ghost use Rattle.highlight.specs.Run.{CameTo, SaysAlone, status_of};
+ghost use Rattle.highlight.specs.Scripts.{IsWhole};
 ghost use Rattle.highlight.specs.Statuses.{IsStatus};
 ghost use Rattle.highlight.specs.declared.end.Finish.{Finish};
 ghost use Rattle.highlight.specs.declared.making.Making.{Making};
@@ -46,6 +47,9 @@ pub fn highlight<S: Source, M: Machine, V: Volume, C: Clock>(
     ensures mkfs { IsMkfs (map string_bytes words.now) → 2112 ≤ M.blocks machine → (making : Making) × (result.status ≡ status_of_making making)
         × Makes (M.blocks machine) (M.history machine) (M.history result.machine) making }
     ensures statuses { IsStatus result.status }
+    ensures complete { IsRun (map string_bytes words.now) → 2112 ≤ M.blocks machine → IsWhole (M.blocks machine) (S.left input.old) (M.history machine)
+        → (Rose (M.faults machine) (M.faults result.machine) → ⊥) → (Rose (M.say_faults machine) (M.say_faults result.machine) → ⊥) → (Rose (S.faults input.old) (S.faults input.new) → ⊥)
+        → (result.status ≡ 0) ⊎ (result.status ≡ 8) }
     // The causes of the faults.
     ensures output_cause { result.status ≡ 6 → Rose (M.say_faults machine) (M.say_faults result.machine) }
     ensures input_cause { result.status ≡ 7 → Rose (S.faults input.old) (S.faults input.new) }

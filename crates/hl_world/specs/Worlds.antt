@@ -15,6 +15,8 @@ use Rattle.hl_script.specs.declared.said.Said.TheVariants as said
 use Rattle.hl_dump.specs.Dumps.{HasDump, IsTooLong, dump_limits}
 use Rattle.hl_disk.specs.declared.mounting.Mounted.{Mounted}
 use Rattle.hl_disk.specs.declared.mounting.MountError.{MountError}
+use Rattle.hl_disk.specs.declared.mounting.MountError.TheVariants.{NoLabel, NoRecord, DiskFault}
+use Rattle.hl_disk.specs.declared.mounting.MountError.TheVariants as mount
 use Rattle.hl_disk.specs.Saves.{HasSaved}
 use Rattle.hl_world.specs.declared.fault.CloseFault.{CloseFault}
 use Rattle.hl_world.specs.declared.fault.CloseFault.TheVariants.{Disk, Memory}
@@ -52,6 +54,14 @@ mounted_of (Err refused) = Err refused.0
 abbrev pub why_of : {M : Type 0} → Result (Standing M) (MountError × M) → MountError → Type 0
 why_of (Ok world) why = ⊥
 why_of (Err refused) why = refused.0 ≡ why
+
+-- A disk that stands for a tree under a number is mounted so, unless a read fails or memory is wanting.
+abbrev pub MountsTo : ℕ → Files → Result Mounted MountError → Type 0
+MountsTo number tree (Ok mounted) = (mounted.number ≡ number) × (mounted.files.tree ≡ tree)
+MountsTo number tree (Err NoLabel) = ⊥
+MountsTo number tree (Err NoRecord) = ⊥
+MountsTo number tree (Err DiskFault) = Unit {0}
+MountsTo number tree (Err mount.Memory) = Unit {0}
 
 -- ---- keeping the files
 

@@ -1,14 +1,16 @@
 //! A machine, and the files that it keeps.
 
-ghost use Rattle.std.specs.Prelude.{◌≡◌, ◌≢◌, ◌≤◌, IsTrue, IfOk, OnOk, OnErr, Err};
+ghost use Rattle.std.specs.Prelude.{ℕ, ◌≡◌, ◌≢◌, ◌≤◌, IsTrue, IfOk, OnOk, OnErr, Err};
 ghost use Rattle.std.specs.Option.{ForSome};
 ghost use Rattle.hl_media.specs.Causes.{HasCause, Rose};
 ghost use Rattle.hl_media.specs.History.{Adds, DidSay, content};
 ghost use Rattle.hl_media.specs.Moments.{Runs, Ends};
 ghost use Rattle.hl_media.specs.Saying.{Says, SaysSome};
+ghost use Rattle.hl_tree.specs.Rules.{Files};
+ghost use Rattle.hl_disk.specs.Disks.{StandsFor};
 ghost use Rattle.hl_disk.specs.Mounts.{Mounts};
 ghost use Rattle.hl_disk.specs.Saves.{HasSaved, IsSaving};
-ghost use Rattle.hl_world.specs.Worlds.{is_file_call, machine_of, mounted_of, why_of, Does, IsReady, KeepsDisk, Syncs, device_part, answer_part};
+ghost use Rattle.hl_world.specs.Worlds.{is_file_call, machine_of, mounted_of, why_of, MountsTo, Does, IsReady, KeepsDisk, Syncs, device_part, answer_part};
 
 use crate::calls;
 use crate::fault::CloseFault;
@@ -43,6 +45,7 @@ impl<M: Machine> World<M> {
     pub fn mount(alloc: Global, mut machine: M) -> Result<World<M>, (MountError, M)>
         requires room { 2112 ≤ M.blocks machine }
         ensures mounts { ForSome (M.history machine) (λ h. Mounts (M.blocks machine) (content h) (mounted_of result)) }
+        ensures again { ForSome (M.history machine) (λ h. (number : ℕ) (tree : Files) → StandsFor (M.blocks machine) (content h) number tree → MountsTo number tree (mounted_of result)) }
         ensures ready { IfOk result IsReady }
         ensures reads { Runs (M.history machine) (M.history (machine_of result)) (λ first s. s ≡ first) }
         ensures fault { why_of result MountError.DiskFault → Rose (M.faults machine) (M.faults (machine_of result)) }

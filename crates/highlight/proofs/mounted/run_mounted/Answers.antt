@@ -1,4 +1,4 @@
-use Rattle.std.proofs.Common.{◌≡◌, ◌≤◌, ◌<◌, ℕ, ⊎_elim, inl, inr, Option, sym, ap, subst, ◌∙◌, arith}
+use Rattle.std.proofs.Common.{ℕ, ⊎_elim, inl, inr, sym, subst, ◌∙◌, arith}
 use Rattle.hl_media.specs.Causes.{Rose}
 use Rattle.hl_media.specs.Moments.{Now, Runs}
 use Rattle.hl_media.specs.Moments.{Ends as LastMoment}

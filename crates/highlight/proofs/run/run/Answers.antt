@@ -1,4 +1,4 @@
-use Rattle.std.proofs.Common.{◌≡◌, ◌≤◌, ◌<◌, ◌∙◌, ℕ, Err, ap, subst, refl, arith}
+use Rattle.std.proofs.Common.{◌<◌, ◌∙◌, ℕ, Err, ap, subst, refl, arith}
 use Rattle.std.specs.Prelude.{IfSome}
 use Rattle.std.specs.Io.KnownBytes.{prepend_known}
 use Rattle.hl_media.specs.Causes.{Rose}

@@ -1,4 +1,4 @@
-use Rattle.std.proofs.Common.{◌≡◌, ℕ, ◌+◌, Option, Result, Ok, Err, OnOk, sym, subst}
+use Rattle.std.proofs.Common.{ℕ, Option, Result, Ok, Err, OnOk, sym, subst}
 use Rattle.hl_media.specs.History.{History}
 use Rattle.hl_media.specs.Moments.{Ends}
 use Rattle.hl_tree.specs.Rules.{Files}
