@@ -1,0 +1,12 @@
+pub mod Steps
+pub mod Wraps
+pub mod Sites
+pub mod Cutting
+pub mod Runs
+pub mod Unfolding
+pub mod Units
+pub mod Batching
+pub mod Resting
+pub mod Records
+pub mod TwoPhases
+pub mod Tables

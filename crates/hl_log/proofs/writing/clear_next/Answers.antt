@@ -1,0 +1,12 @@
+use Rattle.hl_log.proofs.Wraps.{next_runs, next_ends}
+use Rattle.hl_log.proofs.writing.clear_next.Goals as goal
+
+pub returns-clause-crash : goal.returns-clause-crash
+returns-clause-crash g c =
+    let did = rw c.block_at.ensures.value at c.write_synced.ensures.did in
+    next_runs c.args.geometry.now _ _ c.args.log _ _ c.requires.settled c.args.next c.zeros-zeros.ensures did
+
+pub returns-clause-cleared : goal.returns-clause-cleared
+returns-clause-cleared g c =
+    let did = rw c.block_at.ensures.value at c.write_synced.ensures.did in
+    next_ends c.args.geometry.now _ _ c.args.log _ _ c.requires.settled c.args.next c.zeros-zeros.ensures did

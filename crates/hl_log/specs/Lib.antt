@@ -1,0 +1,10 @@
+pub mod Free
+pub mod Cut
+pub mod Loads
+pub mod Headings
+pub mod Rest
+pub mod Steps
+pub mod Units
+pub mod Batches
+pub mod Checkpoints
+pub mod Logs
