@@ -2,7 +2,7 @@
 """How much of a run's processor time goes beyond touching its bytes once, and how much memory it takes.
 
 Makes an input of 17,000 lines and about 120 MB (writes of up to 65,536 bytes, reads, new files), runs the program that
-`rt ci` or `rt run` leaves in crates/highlight/out/ on it, and prints
+`rt ci` or `rt run` leaves in crates/highlight/out/ on it, over a disk that its `mkfs` made, and prints
 
   - the processor time of the program, that of `sha256sum` over the same input and output, and their ratio;
   - the peak memory of the program, the bytes of the files that the script leaves, and the difference.
@@ -18,8 +18,8 @@ import tempfile
 import time
 
 LINES = 17_000
-FILES = 48
-LARGEST_FILE = 2_000_000
+FILES = 24
+LARGEST_FILE = 160_000
 LARGEST_WRITE = 65_536
 LARGEST_READ = 32_768
 
@@ -60,12 +60,12 @@ def peak(pid):
     return 0
 
 
-def run(words, source, sink):
+def run(words, source, sink, folder):
     """Runs a command, and answers its status, its processor seconds and its peak memory in bytes.
 
     The peak is looked up while it runs, since what the system tells afterwards counts this program's own memory too.
     """
-    child = subprocess.Popen(words, stdin=source, stdout=sink, cwd=tempfile.gettempdir())
+    child = subprocess.Popen(words, stdin=source, stdout=sink, cwd=folder)
     memory = 0
     while True:
         pid, status, used = os.wait4(child.pid, os.WNOHANG)
@@ -82,10 +82,10 @@ def main():
         given, said = os.path.join(folder, "input"), os.path.join(folder, "output")
         with open(given, "w") as out:
             tree = script(out)
+        run([program, "mkfs"], subprocess.DEVNULL, subprocess.DEVNULL, folder)
         with open(given, "rb") as source, open(said, "wb") as sink:
-            status, seconds, memory = run([program, "run"], source, sink)
-        digest = subprocess.DEVNULL
-        _, touching, _ = run(["sha256sum", given, said], subprocess.DEVNULL, digest)
+            status, seconds, memory = run([program, "run"], source, sink, folder)
+        _, touching, _ = run(["sha256sum", given, said], subprocess.DEVNULL, subprocess.DEVNULL, folder)
         with open(said, "rb") as answers:
             text = answers.read()
         size = os.path.getsize(given)
