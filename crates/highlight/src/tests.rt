@@ -120,8 +120,13 @@ fn stops(
 
 #[test]
 fn each_script_says_its_answers(rt: HostRuntime) -> Result<(), Fail> {
-    let rows: [(&[u8], u8, &[u8]); 24] = [
+    let rows: [(&[u8], u8, &[u8]); 25] = [
         (b"", 0, b""),
+        (
+            b"create /a\nwrite /a 0 6869\nread /a 0 9\n",
+            0,
+            b"ok\nok\ndata 6869\n",
+        ),
         (b"create /a", 0, b"ok\n"),
         (b"create /a\n\n", 3, b"ok\nbad line 2\n"),
         (b"\n", 3, b"bad line 1\n"),
@@ -250,6 +255,28 @@ fn a_stop_leaves_the_files_after_some_first_lines(rt: HostRuntime) -> Result<(),
         since,
         &[b"names\n", b"names a\n", b"names b c\n", b"names c\n"],
     )
+}
+
+#[test]
+fn a_stop_of_mkfs_leaves_no_label_or_the_root(rt: HostRuntime) -> Result<(), Fail> {
+    let alloc = rt.alloc();
+    let disk = made(&rt, alloc)?;
+    let mut mounted = 0;
+    for moment in 0..disk.now() {
+        for tear in [Tear::Old, Tear::New, Tear::Prefix(100), Tear::Filled(255)] {
+            let image = disk.stop_image(alloc, moment, tear)?;
+            let begins = image.get(..8) == Some(b"HLLABEL1".as_slice());
+            if begins && image.get(4064..4068) != Some([0; 4].as_slice()) {
+                assert!(rt; listed(&rt, alloc, &image, &[b"names\n"])? == 0);
+                mounted = moment;
+            } else {
+                let machine = machine_of(alloc, &image)?;
+                ran(&rt, alloc, machine, b"", 0, (4, b"no label\n"))?;
+            }
+        }
+    }
+    assert!(rt; mounted > 8);
+    Ok(())
 }
 
 #[test]
