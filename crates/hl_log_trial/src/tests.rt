@@ -75,6 +75,22 @@ fn finds_no_second_part(rt: &impl Abort, alloc: Global, image: &[u8]) -> Result<
     Ok(())
 }
 
+/// On a disk with these bytes, whose chain is empty, a unit of two parts is written: each stop, that in the zeros before
+/// its first part among them, finds no part or both.
+fn finds_none_or_both(rt: &impl Abort, alloc: Global, image: &[u8]) -> Result<(), Fail> {
+    let Some(mut again) = Trial::on(alloc, image, 60)? else {
+        panic!(rt; "no disk")
+    };
+    assert!(rt; again.write(alloc, 5, 6, 0)?);
+    for moment in 0..again.now() {
+        for tear in TEARS {
+            let found = again.parts(alloc, moment, tear)?;
+            assert!(rt; found == Some(0) || found == Some(2));
+        }
+    }
+    Ok(())
+}
+
 /// A log whose one unit has two parts.
 fn with_two_parts(rt: &impl Abort, alloc: Global) -> Result<Trial, Fail> {
     let mut trial = fresh(rt, alloc, 60)?;
@@ -105,6 +121,14 @@ fn a_first_part_alone_gets_no_second_part(rt: HostRuntime) -> Result<(), Fail> {
     // The zeros at the head, those behind the first part, and that part, each written and synced.
     let image = left(&rt, alloc, &trial, 12, 0)?;
     finds_no_second_part(&rt, alloc, image.as_slice())
+}
+
+#[test]
+fn a_unit_over_a_first_part_alone_is_whole_or_absent(rt: HostRuntime) -> Result<(), Fail> {
+    let alloc = rt.alloc();
+    let trial = with_two_parts(&rt, alloc)?;
+    let image = left(&rt, alloc, &trial, 12, 0)?;
+    finds_none_or_both(&rt, alloc, image.as_slice())
 }
 
 #[test]
