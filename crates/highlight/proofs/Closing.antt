@@ -56,9 +56,9 @@ no_more C B limits limit opening input done more rest last Input closed e = e.0
 no_more C B limits limit opening input done more rest last Memory closed e = e.0
 no_more C B limits limit opening input done more rest last TooLong closed e = e.0
 
-module _ (blocks : ℕ) (old new : Held) (C C' B B' : Type 0) (c : C → C') (b : B → B') (limit : ℕ) (input : List ℕ) (end : End) (before mid now : Option History)
+module _ (blocks : ℕ) (old new : Held) (Clocked : List DoneLine → Type 0) (C C' B B' : Type 0) (c : C → C') (b : B → B') (limit : ℕ) (input : List ℕ) (end : End) (before mid now : Option History)
     (opens : Now before (λ s. StandsFor blocks s.content old.number old.files.tree)) (still : Runs before mid (λ first s. s ≡ first))
-    (ran : RanBy Runs C B (LeavesLines blocks old new mid now end) blocks dump_limits limit old.files.tree input end mid now) where
+    (ran : RanBy Runs C B (LeavesLines blocks old new mid now end) Clocked blocks dump_limits limit old.files.tree input end mid now) where
   abbrev opening : Files
   opening = old.files.tree
 
@@ -117,11 +117,11 @@ module _ (blocks : ℕ) (old new : Held) (C C' B B' : Type 0) (c : C → C') (b 
 
   -- a run that isn't closed
   pub unclosed : closes end ≡ false
-      → (opening : Files) × OpensWith blocks before opening × RanBy AtEachMomentSince C' B' (KeepsLines blocks now end opening) blocks dump_limits limit opening input end before now
+      → (opening : Files) × OpensWith blocks before opening × RanBy AtEachMomentSince C' B' (KeepsLines blocks now end opening) Clocked blocks dump_limits limit opening input end before now
   unclosed open_end = (
     opening,
     opens_with,
-    (ran.0, ran_so, spoken_since, at_each_moment before now P moments_since, λ closed. absurd (let h : false ≡ true = sym open_end ∙ closed in never h)),
+    (ran.0, ran_so, spoken_since, at_each_moment before now P moments_since, λ closed. absurd (let h : false ≡ true = sym open_end ∙ closed in never h), ran.5),
   )
 
   -- ---- closing
@@ -179,12 +179,12 @@ module _ (blocks : ℕ) (old new : Held) (C C' B B' : Type 0) (c : C → C') (b 
         (ends_of_run now last (IsSaving blocks new.number new.files.tree) saving) (λ first m s b q. q.said ∙ b)
 
     -- a run whose files couldn't be kept behind it
-    pub closing_failed : (opening : Files) × OpensWith blocks before opening × RanBy AtEachMomentSince C' B' (λ done. Unit {0}) blocks dump_limits limit opening input end before last
-    closing_failed = (opening, opens_with, (ran.0, ran_so, spoken_last, at_each_moment before last P closing_moments, tt))
+    pub closing_failed : (opening : Files) × OpensWith blocks before opening × RanBy AtEachMomentSince C' B' (λ done. Unit {0}) Clocked blocks dump_limits limit opening input end before last
+    closing_failed = (opening, opens_with, (ran.0, ran_so, spoken_last, at_each_moment before last P closing_moments, tt, ran.5))
 
     -- a run that is closed
     pub closing_done : LastMoment now last (HasSaved blocks new.number new.files.tree)
-        → (opening : Files) × OpensWith blocks before opening × RanBy AtEachMomentSince C' B' (KeepsLines blocks last end opening) blocks dump_limits limit opening input end before last
+        → (opening : Files) × OpensWith blocks before opening × RanBy AtEachMomentSince C' B' (KeepsLines blocks last end opening) Clocked blocks dump_limits limit opening input end before last
     closing_done saved = (
       opening,
       opens_with,
@@ -195,6 +195,7 @@ module _ (blocks : ℕ) (old new : Held) (C C' B B' : Type 0) (c : C → C') (b 
         at_each_moment before last P closing_moments,
         λ _. now_then now last saving.calls saving.is (λ m. StandsFor blocks m.content new.number T) (HasSaved blocks new.number new.files.tree) (λ s. (number : ℕ) × IsSettled blocks number (tree_after dump_limits opening r.done) s)
             leaves.1.stands saved (λ m s stands kept. (new.number + 1, subst (λ (t : Files). IsSettled blocks (new.number + 1) t s) tree_is (kept T stands))),
+        ran.5,
       ),
     )
 

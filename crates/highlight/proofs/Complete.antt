@@ -11,7 +11,7 @@ use Rattle.hl_disk.specs.declared.mounting.MountError.TheVariants.{NoLabel, NoRe
 use Rattle.hl_disk.specs.declared.mounting.MountError.TheVariants as mount
 use Rattle.hl_world.specs.declared.fault.CloseFault.TheVariants.{Disk}
 use Rattle.hl_world.specs.declared.fault.CloseFault.TheVariants as close
-use Rattle.highlight.specs.Run.{DoneLine, Ran, RanOver, KeepsLines, CameTo, input_limit, status_of}
+use Rattle.highlight.specs.Run.{DoneLine, IsClocked, Ran, RanOver, KeepsLines, CameTo, input_limit, status_of}
 use Rattle.highlight.specs.Scripts.{IsGoodText, IsScript, IsWhole}
 use Rattle.highlight.specs.declared.end.End.{End}
 use Rattle.highlight.specs.declared.end.End.TheVariants.{Finished, BadLine, Output, Broken, Input, Memory, TooLong}
@@ -54,20 +54,20 @@ module _ (C B : Type 0) (opening : Files) (input : List ℕ) (script : IsScript 
       by_limit (inr over) = let le = script.short in omega (arith, over, le)
 
 -- what is left of a run that met no fault
-pub finishes : (C B : Type 0) (blocks : ℕ) (left : Option (List ℕ)) (before now : Option History) → IsWhole blocks left before
-    → (finish : Finish) → CameTo C B blocks left before now finish → (status_of finish ≡ 5 → ⊥) → (status_of finish ≡ 6 → ⊥) → (status_of finish ≡ 7 → ⊥) → (status_of finish ≡ 0) ⊎ (status_of finish ≡ 8)
-finishes C B blocks left before now w (Refused NoLabel) came disk output input = absurd (came.0 w.history w.tells w.stands.label)
-finishes C B blocks left before now w (Refused NoRecord) came disk output input = absurd ((came.0 w.history w.tells).1 w.stands.newest w.tree w.stands.checks)
-finishes C B blocks left before now w (Refused DiskFault) came disk output input = absurd (disk refl)
-finishes C B blocks left before now w (Refused mount.Memory) came disk output input = inr refl
-finishes C B blocks left before now w (Ended Finished) came disk output input = inl refl
-finishes C B blocks left before now w (Ended BadLine) came disk output input =
-    let ran = subst (λ (o : Option (List ℕ)). RanOver C B (KeepsLines blocks now BadLine) blocks o before now BadLine) w.told came in absurd (no_bad_line C B ran.0 w.input w.script ran.2.0 ran.2.1)
-finishes C B blocks left before now w (Ended Output) came disk output input = absurd (output refl)
-finishes C B blocks left before now w (Ended Broken) came disk output input = absurd (disk refl)
-finishes C B blocks left before now w (Ended Input) came disk output input = absurd (input refl)
-finishes C B blocks left before now w (Ended Memory) came disk output input = inr refl
-finishes C B blocks left before now w (Ended TooLong) came disk output input =
-    let ran = subst (λ (o : Option (List ℕ)). RanOver C B (KeepsLines blocks now TooLong) blocks o before now TooLong) w.told came in absurd (no_limit C B ran.0 w.input w.script ran.2.0 ran.2.1)
-finishes C B blocks left before now w (Unclosed end Disk) came disk output input = absurd (disk refl)
-finishes C B blocks left before now w (Unclosed end close.Memory) came disk output input = inr refl
+pub finishes : (C B : Type 0) (blocks : ℕ) (left times times' : Option (List ℕ)) (before now : Option History) → IsWhole blocks left before
+    → (finish : Finish) → CameTo C B blocks left times times' before now finish → (status_of finish ≡ 5 → ⊥) → (status_of finish ≡ 6 → ⊥) → (status_of finish ≡ 7 → ⊥) → (status_of finish ≡ 0) ⊎ (status_of finish ≡ 8)
+finishes C B blocks left times times' before now w (Refused NoLabel) came disk output input = absurd (came.0 w.history w.tells w.stands.label)
+finishes C B blocks left times times' before now w (Refused NoRecord) came disk output input = absurd ((came.0 w.history w.tells).1 w.stands.newest w.tree w.stands.checks)
+finishes C B blocks left times times' before now w (Refused DiskFault) came disk output input = absurd (disk refl)
+finishes C B blocks left times times' before now w (Refused mount.Memory) came disk output input = inr refl
+finishes C B blocks left times times' before now w (Ended Finished) came disk output input = inl refl
+finishes C B blocks left times times' before now w (Ended BadLine) came disk output input =
+    let ran = subst (λ (o : Option (List ℕ)). RanOver C B (KeepsLines blocks now BadLine) (IsClocked times times' BadLine) blocks o before now BadLine) w.told came in absurd (no_bad_line C B ran.0 w.input w.script ran.2.0 ran.2.1)
+finishes C B blocks left times times' before now w (Ended Output) came disk output input = absurd (output refl)
+finishes C B blocks left times times' before now w (Ended Broken) came disk output input = absurd (disk refl)
+finishes C B blocks left times times' before now w (Ended Input) came disk output input = absurd (input refl)
+finishes C B blocks left times times' before now w (Ended Memory) came disk output input = inr refl
+finishes C B blocks left times times' before now w (Ended TooLong) came disk output input =
+    let ran = subst (λ (o : Option (List ℕ)). RanOver C B (KeepsLines blocks now TooLong) (IsClocked times times' TooLong) blocks o before now TooLong) w.told came in absurd (no_limit C B ran.0 w.input w.script ran.2.0 ran.2.1)
+finishes C B blocks left times times' before now w (Unclosed end Disk) came disk output input = absurd (disk refl)
+finishes C B blocks left times times' before now w (Unclosed end close.Memory) came disk output input = inr refl

@@ -1,3 +1,4 @@
+pub mod Clocks
 pub mod OneTurn
 pub mod Hearing
 pub mod OneLine

@@ -1,5 +1,5 @@
 -- What a turn makes of the line that it is given.
-use Rattle.std.proofs.Common.{inl, inr, ◌≡◌, ◌≤◌, ℕ, Bool, true, false, IsTrue, List, ◌∷◌, length, Option, Some, None, Ok, Err, sym, ap, subst, ◌∙◌, arith}
+use Rattle.std.proofs.Common.{inl, inr, ◌≡◌, ◌≤◌, ℕ, Bool, true, false, IsTrue, List, ◌∷◌, length, Option, Some, None, Ok, Err, refl, sym, ap, subst, ◌∙◌, arith}
 use Rattle.std.specs.Prelude.{◌⊎◌, Result, OnOk, OnErr, IfSome, ◌≢◌}
 use Rattle.hl_media.specs.Causes.{Rose}
 use Rattle.hl_media.specs.History.{History}
@@ -60,15 +60,15 @@ first_line bytes out left old new l gives cuts counted fits served spelled = rec
 -- a line that was read, done and told
 module _ (blocks n : ℕ) (after : Option (List ℕ)) (old new : Ahead) (out text : List ℕ) (broken : Bool) (held held' : Held) (before middle now : Option History) (Cut : Type 0) where
   step : {Saying : Option History → Option History → List ℕ → Type 0} (l : Line) (a : Answers blocks held held' out text broken before middle l) → Runs before middle (IsSaving blocks held.number held.files.tree)
-      → Saying middle now text → Step blocks held held' before now Saying (record { line = l; answer = a.answer })
-  step {Saying} l a saving says = record { middle = middle; does = a.does; saving = saving; kept = a.kept; says = subst (Saying middle now) a.text says }
+      → Saying middle now text → Step blocks held held' before now Saying (record { line = l; answer = a.answer; time = held'.time })
+  step {Saying} l a saving says = record { middle = middle; does = a.does; saving = saving; kept = a.kept; says = subst (Saying middle now) a.text says; time = refl }
 
   told_by : (bytes : List ℕ) (result : Result Bool End) → Gives old new bytes after true out → Cuts old new bytes true out → new.used ≤ old.limit
       → (x : Line) × Answers blocks held held' out text broken before middle x → Runs before middle (IsSaving blocks held.number held.files.tree)
       → Tells Cut text broken middle now result → Turns Cut blocks n old new held held' bytes after before now result
   told_by bytes (Ok true) gives cuts counted done saving tells =
       let a = done.1 in (
-        record { line = done.0; answer = a.answer },
+        record { line = done.0; answer = a.answer; time = held'.time },
         first_line bytes out after old new done.0 gives cuts counted a.fits a.served a.spelled,
         gives.left,
         cuts.size,
@@ -78,7 +78,7 @@ module _ (blocks n : ℕ) (after : Option (List ℕ)) (old new : Ahead) (out tex
   told_by bytes (Ok false) gives cuts counted done saving tells = absurd tells
   told_by bytes (Err Output) gives cuts counted done saving tells =
       let a = done.1 in (
-        record { line = done.0; answer = a.answer },
+        record { line = done.0; answer = a.answer; time = held'.time },
         first_line bytes out after old new done.0 gives cuts counted a.fits a.served a.spelled,
         step {Saying = SaysSome} done.0 a saving tells.0,
         sym a.is_broken ∙ tells.1,
@@ -86,7 +86,7 @@ module _ (blocks n : ℕ) (after : Option (List ℕ)) (old new : Ahead) (out tex
       )
   told_by bytes (Err Broken) gives cuts counted done saving tells =
       let a = done.1 in (
-        record { line = done.0; answer = a.answer },
+        record { line = done.0; answer = a.answer; time = held'.time },
         first_line bytes out after old new done.0 gives cuts counted a.fits a.served a.spelled,
         step {Saying = SaysOrFails Cut} done.0 a saving tells.0,
         sym a.is_broken ∙ tells.1,

@@ -1,6 +1,7 @@
 -- A run, turn by turn.
 use Rattle.std.proofs.Common.{suc, zero, ◌≡◌, ◌⊎◌, ◌≤◌, ◌+◌, ℕ, Bool, true, false, IsTrue, if◌then◌else◌, List, [], ◌∷◌, ◌++◌, length, map, Some, None, Ok, Err, Option, refl, sym, ap, subst, ◌∙◌, arith, append_assoc, append-nil, length-append, inl, inr, ⊎_elim}
-use Rattle.std.specs.Prelude.{IfSome, All}
+use Rattle.std.specs.Prelude.{IfSome, All, option_map, ◌-◌}
+use Rattle.std.specs.Option.{ForSome}
 use Rattle.std.specs.Io.KnownBytes.{prepend_known}
 use Rattle.std.proofs.lemmas.List.{map-append}
 use Rattle.std.proofs.lemmas.List.Elements.{All-append, All-cons, All-nil}
@@ -28,7 +29,9 @@ use Rattle.hl_disk.specs.Stops.{IsSettled}
 use Rattle.hl_disk.proofs.Settled.{nothing_saved}
 use Rattle.hl_world.proofs.Lines.{acknowledged_is}
 use Rattle.hl_world.specs.Worlds.{Does, KeepsDisk, is_eio}
-use Rattle.highlight.specs.Run.{DoneLine, IsGood, IsNext, IsPlain, IsBroken, ArePlain, is_reply, tree_after_line, tree_after, tree_at, last_sync, is_kept, answers, whole_lines, IsPart, Ends, Ran, IsPoint, Moment, RanBy, closes, KeepsLimits, PassesLimit, bad_text}
+use Rattle.highlight.specs.Clocks.{times_after, time_at, IsAsked, Asks}
+use Rattle.highlight.proofs.Clocks.{place_of, timed_more, clocked_still, clocked_more, clocked_wanting, took_none}
+use Rattle.highlight.specs.Run.{AreTimed, IsClocked, DoneLine, IsGood, IsNext, IsPlain, IsBroken, ArePlain, is_reply, tree_after_line, tree_after, tree_at, last_sync, is_kept, answers, whole_lines, IsPart, Ends, Ran, IsPoint, Moment, RanBy, closes, KeepsLimits, PassesLimit, bad_text}
 use Rattle.highlight.specs.Turn.{Held, IsFirstLine, Step, Turns}
 use Rattle.highlight.specs.Runs.{OpensAs, Rests, LeavesLines}
 use Rattle.highlight.proofs.Hearing.{Heard, HasTold, says_end, text_heard, whole_lines-append, whole_lines-answers, whole_lines-part, part_of_answer, has_said, part_of_more, part_behind}
@@ -39,24 +42,24 @@ use Rattle.highlight.specs.declared.end.End.TheVariants.{Finished, BadLine, Outp
 -- ---- one more line done
 
 -- a line that is done is plain and leaves the tree after it, or the disk failed it and the files stay
-done_line : (before now : Plain) (l : Line) (answer : Said) → Does before l answer now
-    → (IsPlain before.limits before.tree (record { line = l; answer = answer }) × (is_eio answer ≡ false) ⊎ IsBroken (record { line = l; answer = answer }) × (is_eio answer ≡ true))
+done_line : (before now : Plain) (l : Line) (answer : Said) (time : ℕ) → Does before l answer now
+    → (IsPlain before.limits before.tree (record { line = l; answer = answer; time = time }) × (is_eio answer ≡ false) ⊎ IsBroken (record { line = l; answer = answer; time = time }) × (is_eio answer ≡ true))
     × (now ≡ record { limits = before.limits; tree = tree_after_line before.limits before.tree l answer })
-done_line before now (line.File call) answer (inl (inl rules)) =
+done_line before now (line.File call) answer time (inl (inl rules)) =
     (inl ((call, refl, inl (rules.0, rules.2)), ap is_eio rules.0), rules.1 ∙ (rw rules.0 refl))
-done_line before now (line.File call) answer (inl (inr full)) =
+done_line before now (line.File call) answer time (inl (inr full)) =
     (inl ((call, refl, inr (full.0, full.2)), ap is_eio full.0), full.1 ∙ (rw full.0 refl))
-done_line before now (line.File call) answer (inr broken) =
+done_line before now (line.File call) answer time (inr broken) =
     (inr ((ap (λ c. line.File c) broken.0, broken.1), ap is_eio broken.1), broken.2 ∙ (rw broken.1 refl))
-done_line before now (line.Rank count) answer does = absurd does
-done_line before now (line.Stage paths) answer does = absurd does
-done_line before now line.Copy answer does = absurd does
-done_line before now (line.Fetch path block) answer does = absurd does
-done_line before now (line.Move job) answer does = absurd does
-done_line before now (line.End job) answer does = absurd does
-done_line before now (line.Eject number) answer does = absurd does
-done_line before now line.Clean answer does = absurd does
-done_line before now line.Checkpoint answer does = absurd does
+done_line before now (line.Rank count) answer time does = absurd does
+done_line before now (line.Stage paths) answer time does = absurd does
+done_line before now line.Copy answer time does = absurd does
+done_line before now (line.Fetch path block) answer time does = absurd does
+done_line before now (line.Move job) answer time does = absurd does
+done_line before now (line.End job) answer time does = absurd does
+done_line before now (line.Eject number) answer time does = absurd does
+done_line before now line.Clean answer time does = absurd does
+done_line before now line.Checkpoint answer time does = absurd does
 
 -- a sync leaves the tree, whatever it is answered
 sync_stays : (limits : Limits) (t : Files) (l : Line) (answer : Said) → l ≡ line.File calls.Sync → tree_after_line limits t l answer ≡ t
@@ -83,8 +86,8 @@ answers-append done more = flat_map-append (λ (x : DoneLine). answer_line x.ans
 
 -- ---- where a run stands before a turn
 
--- the lines done, what is left of an input of so many bytes, and what was said and kept by each moment
-pub record HasDone (blocks : ℕ) (old held : Held) (input rest : List ℕ) (n used : ℕ) (start now : Option History) : Type 0 where
+-- the lines done and their times, what is left of an input of so many bytes, and what was said and kept by each moment
+pub record HasDone (times : Option (List ℕ)) (blocks : ℕ) (old held : Held) (input rest : List ℕ) (n used : ℕ) (start now : Option History) : Type 0 where
   pub done : List DoneLine
   pub cut : lines_of input ≡ map (λ d. spelling d.line) done ++ lines_of rest
   pub good : All (λ d. IsGood d.line) done
@@ -95,11 +98,12 @@ pub record HasDone (blocks : ℕ) (old held : Held) (input rest : List ℕ) (n u
   pub moments : Runs start now (Moment blocks dump_limits old.files.tree done (answers done))
   pub spoken : LastMoment start now (λ first s. s.said ≡ first.said ++ answers done)
   pub rests : Rests blocks old held start now done
+  pub timed : AreTimed times done
 
-abbrev pub Stands : ℕ → Held → Held → Option (List ℕ) → Option (List ℕ) → ℕ → ℕ → Option History → Option History → Type 0
-Stands blocks old held None rest n used start now = Unit {0}
-Stands blocks old held (Some input) None n used start now = ⊥
-Stands blocks old held (Some input) (Some rest) n used start now = HasDone blocks old held input rest n used start now
+abbrev pub Stands : Option (List ℕ) → ℕ → Held → Held → Option (List ℕ) → Option (List ℕ) → ℕ → ℕ → Option History → Option History → Type 0
+Stands times blocks old held None rest n used start now = Unit {0}
+Stands times blocks old held (Some input) None n used start now = ⊥
+Stands times blocks old held (Some input) (Some rest) n used start now = HasDone times blocks old held input rest n used start now
 
 module _ (blocks : ℕ) (opening : Files) where
   abbrev M : List DoneLine → List ℕ → MachineState → MachineState → Type 0
@@ -197,7 +201,7 @@ module _ (blocks : ℕ) (opening : Files) where
 
 -- ---- a turn, moment by moment
 
-module _ (blocks : ℕ) (old held : Held) (input rest : List ℕ) (n used : ℕ) (start now : Option History) (has : HasDone blocks old held input rest n used start now) where
+module _ {times : Option (List ℕ)} (blocks : ℕ) (old held : Held) (input rest : List ℕ) (n used : ℕ) (start now : Option History) (has : HasDone times blocks old held input rest n used start now) where
   abbrev opening : Files
   opening = old.files.tree
 
@@ -300,10 +304,10 @@ part_itself text = ([], sym (append-nil text))
 
 module _ (blocks : ℕ) (old : Held) where
   -- before the first turn
-  pub stands_first : (input : Option (List ℕ)) (start : Option History) → old.files.limits ≡ dump_limits → OpensAs blocks start old
-      → Stands blocks old old input (prepend_known [] input) 1 0 start start
-  stands_first None start limits opens = tt
-  stands_first (Some input) start limits opens = record {
+  pub stands_first : (times input : Option (List ℕ)) (start : Option History) → old.files.limits ≡ dump_limits → OpensAs blocks start old
+      → Stands times blocks old old input (prepend_known [] input) 1 0 start start
+  stands_first times None start limits opens = tt
+  stands_first times (Some input) start limits opens = record {
     done = [];
     cut = refl;
     good = All-nil (λ d. IsGood d.line);
@@ -321,16 +325,17 @@ module _ (blocks : ℕ) (old : Held) where
           let is = same_number blocks (state_now h).content number old.number old.files.tree old.files.tree settled.holds.stands (opens h e) in
           subst (λ (x : History). IsSettled blocks old.number old.files.tree (state_now x)) (sym same) (subst (λ (k : ℕ). IsSettled blocks k old.files.tree (state_now h)) is settled);
     };
+    timed = λ times e j. tt;
   }
 
-  module _ (held held' : Held) (input rest : List ℕ) (n used : ℕ) (start now next : Option History) (has : HasDone blocks old held input rest n used start now)
+  module _ {times : Option (List ℕ)} (held held' : Held) (input rest : List ℕ) (n used : ℕ) (start now next : Option History) (has : HasDone times blocks old held input rest n used start now)
       (d : DoneLine) where
     abbrev lines : List DoneLine
     lines = has.done ++ d ∷ []
 
     abbrev both : Does held.files d.line d.answer held'.files → (IsPlain dump_limits (tree_after dump_limits old.files.tree has.done) d × (is_eio d.answer ≡ false) ⊎ IsBroken d × (is_eio d.answer ≡ true))
         × (held'.files ≡ record { limits = dump_limits; tree = tree_after_line dump_limits (tree_after dump_limits old.files.tree has.done) d.line d.answer })
-    both does = done_line (record { limits = dump_limits; tree = tree_after dump_limits old.files.tree has.done }) held'.files d.line d.answer (subst (λ (f : Plain). Does f d.line d.answer held'.files) has.files_are does)
+    both does = done_line (record { limits = dump_limits; tree = tree_after dump_limits old.files.tree has.done }) held'.files d.line d.answer d.time (subst (λ (f : Plain). Does f d.line d.answer held'.files) has.files_are does)
 
     is_plain : Does held.files d.line d.answer held'.files → is_eio d.answer ≡ false → IsPlain dump_limits (tree_after dump_limits old.files.tree has.done) d
     is_plain does quiet = ⊎_elim (λ plain. plain.0) (λ broken. absurd (let h : true ≡ false = sym broken.1 ∙ quiet in cc)) (both does).0
@@ -397,8 +402,8 @@ module _ (blocks : ℕ) (old : Held) where
 
     -- one more line done
     one_done : (limit used' : ℕ) → IsFirstLine limit used rest d.line → used' + length (beyond rest) ≡ used + length rest → Step blocks held held' now next Says d → is_eio d.answer ≡ false
-        → HasDone blocks old held' input (beyond rest) (n + 1) used' start next
-    one_done limit used' first size step quiet =
+        → ForSome times (λ ts. held'.time ≡ time_at (n - 1) ts) → HasDone times blocks old held' input (beyond rest) (n + 1) used' start next
+    one_done limit used' first size step quiet asked =
         let counted = length-append has.done (d ∷ []) in
         let a = answer_line d.answer in
         record {
@@ -416,21 +421,23 @@ module _ (blocks : ℕ) (old : Held) where
           spoken = subst (λ (l : List ℕ). LastMoment start next (λ first s. s.said ≡ first.said ++ l)) (sym (answers-more has.done d))
               (answered_end blocks old held input rest n used start now has d held' step.middle step.saving step.kept a next (λ h e h' e'. (says_end step.middle next a step.says h e h' e').0) (map Say step.says.pieces) step.says.is);
           rests = rests_more step quiet;
+          timed = timed_more times has.done d has.timed (λ ts e. step.time ∙ asked ts e ∙ ap (λ (k : ℕ). time_at k ts) (sym (place_of (length has.done) n has.number)));
         }
 
   -- a turn that did a line
-  pub stands_more : (Cut : Type 0) (held held' : Held) (input rest left : Option (List ℕ)) (n : ℕ) (ahead ahead' : Ahead) (start now next : Option History)
-      → Stands blocks old held input rest n ahead.used start now
+  pub stands_more : (times : Option (List ℕ)) (Cut : Type 0) (held held' : Held) (input rest left : Option (List ℕ)) (n : ℕ) (ahead ahead' : Ahead) (start now next : Option History)
+      → Stands times blocks old held input rest n ahead.used start now
       → IfSome rest (λ bytes. Turns Cut blocks n ahead ahead' held held' bytes left now next (Ok true))
-      → Stands blocks old held' input left (n + 1) ahead'.used start next
-  stands_more Cut held held' None rest left n ahead ahead' start now next s t = tt
-  stands_more Cut held held' (Some input) None left n ahead ahead' start now next s t = absurd s
-  stands_more Cut held held' (Some input) (Some rest) left n ahead ahead' start now next s t =
-      rw t.2 (one_done held held' input rest n ahead.used start now next s t.0 ahead.limit ahead'.used t.1 t.3 t.4 t.5)
+      → ForSome times (λ ts. held'.time ≡ time_at (n - 1) ts)
+      → Stands times blocks old held' input left (n + 1) ahead'.used start next
+  stands_more times Cut held held' None rest left n ahead ahead' start now next s t asked = tt
+  stands_more times Cut held held' (Some input) None left n ahead ahead' start now next s t asked = absurd s
+  stands_more times Cut held held' (Some input) (Some rest) left n ahead ahead' start now next s t asked =
+      rw t.2 (one_done held held' input rest n ahead.used start now next s t.0 ahead.limit ahead'.used t.1 t.3 t.4 t.5 asked)
 
   -- ---- the end
 
-  module _ (Cut Broke : Type 0) (limit : ℕ) (held held' : Held) (input rest : List ℕ) (n used : ℕ) (start now next : Option History) (has : HasDone blocks old held input rest n used start now) (fits : used ≤ limit) where
+  module _ {times : Option (List ℕ)} (times' : Option (List ℕ)) (Cut Broke : Type 0) (limit : ℕ) (held held' : Held) (input rest : List ℕ) (n used : ℕ) (start now next : Option History) (has : HasDone times blocks old held input rest n used start now) (fits : used ≤ limit) where
     abbrev E : List DoneLine → List ℕ → End → Type 0
     E more last end = Ends Cut Broke dump_limits limit old.files.tree input has.done more rest last end
 
@@ -440,9 +447,9 @@ module _ (blocks : ℕ) (old : Held) where
         record { done = has.done; more = more; rest = rest; last = last; cut = has.cut; within = omega (arith, size, fits); good = has.good; plain = has.plain; said = refl; ends = ends }
 
     -- a run that ends with other words behind the lines done, and leaves the files
-    idle_end : (end : End) (last : List ℕ) → Says now next last → held' ≡ held → E [] last end
-        → RanBy Runs Cut Broke (LeavesLines blocks old held' start next end) blocks dump_limits limit old.files.tree input end start next
-    idle_end end last says same ends =
+    idle_end : (end : End) (last : List ℕ) → Says now next last → held' ≡ held → E [] last end → IsClocked times times' end has.done
+        → RanBy Runs Cut Broke (LeavesLines blocks old held' start next end) (IsClocked times times' end) blocks dump_limits limit old.files.tree input end start next
+    idle_end end last says same ends clocked =
         let told = says_end now next last says in
         let calls = map Say says.pieces in (
           answers has.done ++ last,
@@ -467,29 +474,32 @@ module _ (blocks : ℕ) (old : Held) where
                   has.rests.settled told (λ a m s b q k settled. same_settled blocks held.number (T blocks old.files.tree has.done) m s (b k settled) q.1 q.2);
             }),
           ),
+          subst (IsClocked times times' end) (sym (append-nil has.done)) clocked,
         )
 
     -- a run that ends with a line done, whose answer is said or some first part of it
     done_end : (end : End) (d : DoneLine) (middle : Option History) → Runs now middle (IsSaving blocks held.number held.files.tree) → KeepsDisk blocks held.number held.files d.line d.answer now middle held'.number
-        → (last : List ℕ) → Says middle next last → IsPart last (answer_line d.answer) → E (d ∷ []) last end → (IsTrue (closes end) → ⊥)
-        → RanBy Runs Cut Broke (LeavesLines blocks old held' start next end) blocks dump_limits limit old.files.tree input end start next
-    done_end end d middle saving keeps last says is_last ends unclosed = (
+        → (last : List ℕ) → Says middle next last → IsPart last (answer_line d.answer) → E (d ∷ []) last end → (IsTrue (closes end) → ⊥) → IsClocked times times' end (has.done ++ d ∷ [])
+        → RanBy Runs Cut Broke (LeavesLines blocks old held' start next end) (IsClocked times times' end) blocks dump_limits limit old.files.tree input end start next
+    done_end end d middle saving keeps last says is_last ends unclosed clocked = (
       answers has.done ++ last,
       ran_with end (d ∷ []) last ends,
       answered_end blocks old held input rest n used start now has d held' middle saving keeps last next (λ h e h' e'. (says_end middle next last says h e h' e').0) (map Say says.pieces) says.is,
       (answering_moments blocks old held input rest n used start now has d held' middle saving keeps last next is_last (text_heard middle next last says) (stays held held' input rest n used start now next has d)),
       λ closed. absurd (unclosed closed),
+      clocked,
     )
 
     -- a run that wanted memory
-    memory_end : Runs now next (IsSaving blocks held.number held.files.tree) → RanBy Runs Cut Broke (LeavesLines blocks old held' start next Memory) blocks dump_limits limit old.files.tree input Memory start next
-    memory_end saving = (
+    memory_end : Runs now next (IsSaving blocks held.number held.files.tree) → IsClocked times times' Memory has.done → RanBy Runs Cut Broke (LeavesLines blocks old held' start next Memory) (IsClocked times times' Memory) blocks dump_limits limit old.files.tree input Memory start next
+    memory_end saving clocked = (
       answers has.done ++ [],
       ran_with Memory [] [] (refl, refl),
       ends_then start now next saving.calls saving.is (λ first s. s.said ≡ first.said ++ answers has.done) (IsSaving blocks held.number held.files.tree) (λ first s. s.said ≡ first.said ++ (answers has.done ++ [])) has.spoken
           (ends_of_run now next (IsSaving blocks held.number held.files.tree) saving) (λ first m s b q. q.said ∙ b ∙ ap (λ l. first.said ++ l) (sym (append-nil (answers has.done)))),
       (saving_moments blocks old held input rest n used start now has [] [] next saving),
       λ closed. absurd (never closed),
+      subst (IsClocked times times' Memory) (sym (append-nil has.done)) clocked,
     )
 
     -- the limits, as the run has them
@@ -499,69 +509,82 @@ module _ (blocks : ℕ) (old : Held) where
     next_line : (ahead : Ahead) → ahead.limit ≡ limit → ahead.used ≡ used → (d : DoneLine) → IsFirstLine ahead.limit ahead.used rest d.line → IsNext limit input rest d
     next_line ahead l u d first = (first.first, first.good, fitting ahead l u first.within)
 
+    -- the clock, where no line was done since
+    still : (end : End) → times' ≡ option_map (times_after (n - 1)) times → IsClocked times times' end has.done
+    still end same = clocked_still times times' end has.done (n - 1) (place_of (length has.done) n has.number) has.timed same
+
+    -- and where one was
+    more : (end : End) (d : DoneLine) → d.time ≡ held'.time → IsAsked (option_map (times_after (n - 1)) times) times' held'.time → IsClocked times times' end (has.done ++ d ∷ [])
+    more end d is asked = clocked_more times times' end has.done d (n - 1) held'.time (place_of (length has.done) n has.number) has.timed is asked
+
     -- a run, from its last turn
     end_from_turn : (Failed : Type 0) → (Failed → Cut) → (ahead ahead' : Ahead) (left : Option (List ℕ)) (end : End) → (end ≡ Broken → Broke) → ahead.limit ≡ limit → ahead.used ≡ used
         → Turns Failed blocks n ahead ahead' held held' rest left now next (Err end)
-        → RanBy Runs Cut Broke (LeavesLines blocks old held' start next end) blocks dump_limits limit old.files.tree input end start next
-    end_from_turn Failed causes ahead ahead' left Finished broke limit_is used_is t = absurd t
-    end_from_turn Failed causes ahead ahead' left BadLine broke limit_is used_is t =
+        → Asks (option_map (times_after (n - 1)) times) times' held'.time (Err end)
+        → RanBy Runs Cut Broke (LeavesLines blocks old held' start next end) (IsClocked times times' end) blocks dump_limits limit old.files.tree input end start next
+    end_from_turn Failed causes ahead ahead' left Finished broke limit_is used_is t asks = absurd t
+    end_from_turn Failed causes ahead ahead' left BadLine broke limit_is used_is t asks =
         let number = ap bad_text has.number in
         let kept = fitting ahead limit_is used_is t.3 in
         elim t.4 [
-          | inl says ↦ idle_end BadLine (bad_text n) says t.5 (refl, (t.0, t.1, t.2, kept, inl (sym number)))
-          | inr some ↦ idle_end BadLine some.1.part some.1.says t.5 (refl, (t.0, t.1, t.2, kept, inr (causes some.0, (some.1.rest, number ∙ some.1.cut))))
+          | inl says ↦ idle_end BadLine (bad_text n) says t.5 (refl, (t.0, t.1, t.2, kept, inl (sym number))) (still BadLine asks)
+          | inr some ↦ idle_end BadLine some.1.part some.1.says t.5 (refl, (t.0, t.1, t.2, kept, inr (causes some.0, (some.1.rest, number ∙ some.1.cut)))) (still BadLine asks)
         ]
-    end_from_turn Failed causes ahead ahead' left Output broke limit_is used_is t =
+    end_from_turn Failed causes ahead ahead' left Output broke limit_is used_is t asks =
         let d = t.0 in
         let step = t.2 in
         let some = step.says in
         done_end Output d step.middle step.saving step.kept some.part some.says (some.rest, some.cut)
-        (d, refl, next_line ahead limit_is used_is d t.1, is_plain held held' input rest n used start now next has d step.does t.3, causes t.4, (some.rest, some.cut)) never
-    end_from_turn Failed causes ahead ahead' left Broken broke limit_is used_is t =
+        (d, refl, next_line ahead limit_is used_is d t.1, is_plain held held' input rest n used start now next has d step.does t.3, causes t.4, (some.rest, some.cut)) never (more Output d step.time asks)
+    end_from_turn Failed causes ahead ahead' left Broken broke limit_is used_is t asks =
         let d = t.0 in
         let step = t.2 in
         let broken = is_broken held held' input rest n used start now next has d step.does t.3 in
         let first = next_line ahead limit_is used_is d t.1 in
         elim step.says [
-          | inl says ↦ done_end Broken d step.middle step.saving step.kept (answer_line d.answer) says (part_itself (answer_line d.answer)) (d, refl, first, broken, broke refl, inl refl) never
-          | inr some ↦ done_end Broken d step.middle step.saving step.kept some.1.part some.1.says (some.1.rest, some.1.cut) (d, refl, first, broken, broke refl, inr (causes some.0, (some.1.rest, some.1.cut))) never
+          | inl says ↦ done_end Broken d step.middle step.saving step.kept (answer_line d.answer) says (part_itself (answer_line d.answer)) (d, refl, first, broken, broke refl, inl refl) never (more Broken d step.time asks)
+          | inr some ↦ done_end Broken d step.middle step.saving step.kept some.1.part some.1.says (some.1.rest, some.1.cut) (d, refl, first, broken, broke refl, inr (causes some.0, (some.1.rest, some.1.cut))) never (more Broken d step.time asks)
         ]
-    end_from_turn Failed causes ahead ahead' left Input broke limit_is used_is t = idle_end Input [] t.0 t.1 (refl, refl)
-    end_from_turn Failed causes ahead ahead' left Memory broke limit_is used_is t = memory_end t
-    end_from_turn Failed causes ahead ahead' left TooLong broke limit_is used_is t =
-        idle_end TooLong [] t.1 t.2 (refl, subst (λ (k : ℕ). PassesLimit limit k rest) (ap (λ (k : ℕ). k + length rest) used_is ∙ has.size) (subst (λ (k : ℕ). PassesLimit k (ahead.used + length rest) rest) limit_is t.0), refl)
+    end_from_turn Failed causes ahead ahead' left Input broke limit_is used_is t asks = idle_end Input [] t.0 t.1 (refl, refl) (still Input asks)
+    end_from_turn Failed causes ahead ahead' left Memory broke limit_is used_is t asks = memory_end t (clocked_wanting times times' has.done (n - 1) (place_of (length has.done) n has.number) has.timed asks)
+    end_from_turn Failed causes ahead ahead' left TooLong broke limit_is used_is t asks =
+        idle_end TooLong [] t.1 t.2 (refl, subst (λ (k : ℕ). PassesLimit limit k rest) (ap (λ (k : ℕ). k + length rest) used_is ∙ has.size) (subst (λ (k : ℕ). PassesLimit k (ahead.used + length rest) rest) limit_is t.0), refl) (still TooLong asks)
 
     -- a run to the input's end
-    finished_end : rest ≡ [] → Says now next [] → held' ≡ held → RanBy Runs Cut Broke (LeavesLines blocks old held' start next Finished) blocks dump_limits limit old.files.tree input Finished start next
-    finished_end none says same =
+    finished_end : rest ≡ [] → Says now next [] → held' ≡ held → times' ≡ option_map (times_after (n - 1)) times → RanBy Runs Cut Broke (LeavesLines blocks old held' start next Finished) (IsClocked times times' Finished) blocks dump_limits limit old.files.tree input Finished start next
+    finished_end none says same asks =
         let size = has.size in
         let empty : length rest ≡ 0 = ap length none in
-        idle_end Finished [] says same (refl, none, omega (arith, size, empty, fits), refl)
+        idle_end Finished [] says same (refl, none, omega (arith, size, empty, fits), refl) (still Finished asks)
 
-  pub ran_from_turn : (Failed Cut Broke : Type 0) → (Failed → Cut) → (limit : ℕ) (held held' : Held) (input rest left : Option (List ℕ)) (n : ℕ) (ahead ahead' : Ahead) (start now next : Option History) (end : End) → (end ≡ Broken → Broke)
+  pub ran_from_turn : (times times' : Option (List ℕ)) (Failed Cut Broke : Type 0) → (Failed → Cut) → (limit : ℕ) (held held' : Held) (input rest left : Option (List ℕ)) (n : ℕ) (ahead ahead' : Ahead) (start now next : Option History) (end : End) → (end ≡ Broken → Broke)
       → ahead.limit ≡ limit → ahead.used ≤ limit
-      → Stands blocks old held input rest n ahead.used start now
+      → Stands times blocks old held input rest n ahead.used start now
       → IfSome rest (λ bytes. Turns Failed blocks n ahead ahead' held held' bytes left now next (Err end))
-      → IfSome input (λ bytes. RanBy Runs Cut Broke (LeavesLines blocks old held' start next end) blocks dump_limits limit old.files.tree bytes end start next)
-  ran_from_turn Failed Cut Broke causes limit held held' None rest left n ahead ahead' start now next end broke limit_is fits s t = tt
-  ran_from_turn Failed Cut Broke causes limit held held' (Some input) None left n ahead ahead' start now next end broke limit_is fits s t = absurd s
-  ran_from_turn Failed Cut Broke causes limit held held' (Some input) (Some rest) left n ahead ahead' start now next end broke limit_is fits s t =
-      end_from_turn Cut Broke limit held held' input rest n ahead.used start now next s fits Failed causes ahead ahead' left end broke limit_is refl t
+      → Asks (option_map (times_after (n - 1)) times) times' held'.time (Err end)
+      → IfSome input (λ bytes. RanBy Runs Cut Broke (LeavesLines blocks old held' start next end) (IsClocked times times' end) blocks dump_limits limit old.files.tree bytes end start next)
+  ran_from_turn times times' Failed Cut Broke causes limit held held' None rest left n ahead ahead' start now next end broke limit_is fits s t asks = tt
+  ran_from_turn times times' Failed Cut Broke causes limit held held' (Some input) None left n ahead ahead' start now next end broke limit_is fits s t asks = absurd s
+  ran_from_turn times times' Failed Cut Broke causes limit held held' (Some input) (Some rest) left n ahead ahead' start now next end broke limit_is fits s t asks =
+      end_from_turn times' Cut Broke limit held held' input rest n ahead.used start now next s fits Failed causes ahead ahead' left end broke limit_is refl t asks
 
-  pub ran_to_the_end : (Failed Cut Broke : Type 0) (limit : ℕ) (held held' : Held) (input rest left : Option (List ℕ)) (n : ℕ) (ahead ahead' : Ahead) (start now next : Option History)
+  pub ran_to_the_end : (times times' : Option (List ℕ)) (Failed Cut Broke : Type 0) (limit : ℕ) (held held' : Held) (input rest left : Option (List ℕ)) (n : ℕ) (ahead ahead' : Ahead) (start now next : Option History)
       → ahead.used ≤ limit
-      → Stands blocks old held input rest n ahead.used start now
+      → Stands times blocks old held input rest n ahead.used start now
       → IfSome rest (λ bytes. Turns Failed blocks n ahead ahead' held held' bytes left now next (Ok false))
-      → IfSome input (λ bytes. RanBy Runs Cut Broke (LeavesLines blocks old held' start next Finished) blocks dump_limits limit old.files.tree bytes Finished start next)
-  ran_to_the_end Failed Cut Broke limit held held' None rest left n ahead ahead' start now next fits s t = tt
-  ran_to_the_end Failed Cut Broke limit held held' (Some input) None left n ahead ahead' start now next fits s t = absurd s
-  ran_to_the_end Failed Cut Broke limit held held' (Some input) (Some rest) left n ahead ahead' start now next fits s t =
-      finished_end Cut Broke limit held held' input rest n ahead.used start now next s fits t.0 t.1 t.2
+      → times' ≡ option_map (times_after (n - 1)) times
+      → IfSome input (λ bytes. RanBy Runs Cut Broke (LeavesLines blocks old held' start next Finished) (IsClocked times times' Finished) blocks dump_limits limit old.files.tree bytes Finished start next)
+  ran_to_the_end times times' Failed Cut Broke limit held held' None rest left n ahead ahead' start now next fits s t asks = tt
+  ran_to_the_end times times' Failed Cut Broke limit held held' (Some input) None left n ahead ahead' start now next fits s t asks = absurd s
+  ran_to_the_end times times' Failed Cut Broke limit held held' (Some input) (Some rest) left n ahead ahead' start now next fits s t asks =
+      finished_end times' Cut Broke limit held held' input rest n ahead.used start now next s fits t.0 t.1 t.2 asks
 
   -- a run that ends before its first line
-  pub ran_not_at_all : (Cut Broke : Type 0) (limit : ℕ) (held' : Held) (input : Option (List ℕ)) (start : Option History) → old.files.limits ≡ dump_limits → OpensAs blocks start old
-      → IfSome input (λ bytes. RanBy Runs Cut Broke (LeavesLines blocks old held' start start Memory) blocks dump_limits limit old.files.tree bytes Memory start start)
-  ran_not_at_all Cut Broke limit held' None start limits opens = tt
-  ran_not_at_all Cut Broke limit held' (Some input) start limits opens =
-      memory_end Cut Broke limit old held' input input 1 0 start start start (stands_first (Some input) start limits opens) (omega arith)
+  pub ran_not_at_all : (times : Option (List ℕ)) (Cut Broke : Type 0) (limit : ℕ) (held' : Held) (input : Option (List ℕ)) (start : Option History) → old.files.limits ≡ dump_limits → OpensAs blocks start old
+      → IfSome input (λ bytes. RanBy Runs Cut Broke (LeavesLines blocks old held' start start Memory) (IsClocked times times Memory) blocks dump_limits limit old.files.tree bytes Memory start start)
+  ran_not_at_all times Cut Broke limit held' None start limits opens = tt
+  ran_not_at_all times Cut Broke limit held' (Some input) start limits opens =
+      let has : HasDone times blocks old old input input 1 0 start start = stands_first times (Some input) start limits opens in
+      memory_end times Cut Broke limit old held' input input 1 0 start start start has (omega arith)
       (starts start (IsSaving blocks old.number old.files.tree) (λ h e. nothing_saved blocks old.number old.files.tree (state_now h)))
+      (clocked_still times times Memory has.done (1 - 1) (place_of (length has.done) 1 has.number) has.timed (took_none times))

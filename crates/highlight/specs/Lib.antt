@@ -1,8 +1,9 @@
+pub mod Clocks
 pub mod Command
-pub mod Served
-pub mod Run
-pub mod Turn
-pub mod Runs
 pub mod Makes
-pub mod Statuses
+pub mod Run
+pub mod Runs
 pub mod Scripts
+pub mod Served
+pub mod Statuses
+pub mod Turn

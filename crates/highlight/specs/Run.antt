@@ -1,5 +1,5 @@
 -- A run: the lines that are done, the tree after each, what is said, and why it ends.
-use Rattle.std.specs.Prelude.{◌≡◌, ◌⊎◌, ℕ, zero, suc, if◌then◌else◌, Bool, true, false, ◌+◌, ◌<◌, ◌≤◌, IsTrue, IfSome, List, [], ◌∷◌, ◌++◌, length, take, map, flat_map, slice_get, All, Option, Some, None, Err, codes, decimal}
+use Rattle.std.specs.Prelude.{◌≡◌, ◌⊎◌, ℕ, zero, suc, if◌then◌else◌, Bool, true, false, ◌+◌, ◌<◌, ◌≤◌, IsTrue, IfSome, List, [], ◌∷◌, ◌++◌, length, take, map, flat_map, slice_get, All, Option, Some, None, Err, option_map, codes, decimal}
 use Rattle.std.specs.Option.{ForSome}
 use Rattle.hl_media.specs.History.{History, MachineState, content}
 use Rattle.hl_media.specs.Moments.{AtEachMomentSince, Now, Runs}
@@ -26,6 +26,7 @@ use Rattle.hl_world.specs.declared.fault.CloseFault.{CloseFault}
 use Rattle.hl_world.specs.declared.fault.CloseFault.TheVariants.{Disk}
 use Rattle.hl_world.specs.declared.fault.CloseFault.TheVariants as close
 use Rattle.hl_world.specs.Worlds.{is_acknowledged}
+use Rattle.highlight.specs.Clocks.{times_after, time_at}
 use Rattle.highlight.specs.Served.{is_served}
 use Rattle.highlight.specs.declared.end.End.{End}
 use Rattle.highlight.specs.declared.end.End.TheVariants.{Finished, BadLine, Output, Broken, Input, Memory, TooLong}
@@ -40,10 +41,11 @@ input_limit = 4294967296
 
 -- ---- lines and trees
 
--- a line that is done, and its answer
+-- a line that is done, its answer, and the time that it was given, in seconds
 pub record DoneLine : Type 0 where
   pub line : Line
   pub answer : Said
+  pub time : ℕ
 
 -- whether an answer is a reply of the file rules
 abbrev pub is_reply : Said → Bool
@@ -185,23 +187,42 @@ pub record Moment (blocks : ℕ) (limits : Limits) (opening : Files) (lines : Li
   pub said : HasSaid lines whole first now
   pub safe : (number : ℕ) → IsSettled blocks number opening first → IsPoint blocks limits opening lines (whole_lines said.text) now
 
--- A run from the opening tree says its text, and each moment since is one of such a run. Kept holds of the lines done;
--- Each says of each moment since that it stands to the first in a way.
-abbrev pub RanBy : (Option History → Option History → (MachineState → MachineState → Type 0) → Type 0) → Type 0 → Type 0 → (List DoneLine → Type 0) → ℕ → Limits → ℕ → Files → List ℕ → End → Option History → Option History → Type 0
-RanBy Each Cut Broke Kept blocks limits limit opening input end before now =
+-- ---- the clock
+
+-- so many answers were taken of a clock that told these times before and those after
+abbrev pub Took : ℕ → Option (List ℕ) → Option (List ℕ) → Type 0
+Took n before after = after ≡ option_map (times_after n) before
+
+-- the time of each line is the clock's answer of its place, where the clock tells its times
+abbrev pub AreTimed : Option (List ℕ) → List DoneLine → Type 0
+AreTimed before lines = ForSome before (λ times. (j : ℕ) → IfSome (slice_get lines j) (λ d. d.time ≡ time_at j times))
+
+-- The clock was asked once for each of these lines, before the line; where memory was wanting, perhaps once more.
+pub record IsClocked (before after : Option (List ℕ)) (end : End) (lines : List DoneLine) : Type 0 where
+  pub timed : AreTimed before lines
+  pub asked : Took (length lines) before after ⊎ ((end ≡ Memory) × Took (suc (length lines)) before after)
+
+-- ---- the whole run
+
+-- A run from the opening tree says its text, and each moment since is one of such a run. Kept holds of the lines done, and
+-- Clocked of these and the one behind them; Each says of each moment since that it stands to the first in a way.
+abbrev pub RanBy : (Option History → Option History → (MachineState → MachineState → Type 0) → Type 0) → Type 0 → Type 0 → (List DoneLine → Type 0) → (List DoneLine → Type 0)
+    → ℕ → Limits → ℕ → Files → List ℕ → End → Option History → Option History → Type 0
+RanBy Each Cut Broke Kept Clocked blocks limits limit opening input end before now =
     (text : List ℕ) × (ran : Ran Cut Broke limits limit opening input end text)
     × LastMoment before now (λ first s. s.said ≡ first.said ++ text)
     × Each before now (Moment blocks limits opening (ran.done ++ ran.more) text)
     × Kept ran.done
+    × Clocked (ran.done ++ ran.more)
 
 -- The disk that a run starts from stands for its opening tree.
 abbrev pub OpensWith : ℕ → Option History → Files → Type 0
 OpensWith blocks before opening = Now before (λ s. (number : ℕ) × StandsFor blocks s.content number opening)
 
 -- where the input is known, such a run over it begins with the tree that the disk stands for
-abbrev pub RanOver : Type 0 → Type 0 → (Files → List DoneLine → Type 0) → ℕ → Option (List ℕ) → Option History → Option History → End → Type 0
-RanOver Cut Broke Kept blocks left before now end =
-    IfSome left (λ input. (opening : Files) × OpensWith blocks before opening × RanBy AtEachMomentSince Cut Broke (Kept opening) blocks dump_limits input_limit opening input end before now)
+abbrev pub RanOver : Type 0 → Type 0 → (Files → List DoneLine → Type 0) → (List DoneLine → Type 0) → ℕ → Option (List ℕ) → Option History → Option History → End → Type 0
+RanOver Cut Broke Kept Clocked blocks left before now end =
+    IfSome left (λ input. (opening : Files) × OpensWith blocks before opening × RanBy AtEachMomentSince Cut Broke (Kept opening) Clocked blocks dump_limits input_limit opening input end before now)
 
 -- ---- the whole command
 
@@ -235,12 +256,15 @@ SaysAlone Cut text before now =
     Runs before now (IsAlone text)
     × (LastMoment before now (λ first s. s.said ≡ first.said ++ text) ⊎ Cut)
 
--- What a run did to the input, the output and the disk: the disk was refused; or lines were done, and where that is owed
+-- What a run did to the input, the clock, the output and the disk: the disk was refused; or lines were done, and where that is owed
 -- the files were kept on the disk; or they were done, and that failed.
-abbrev pub CameTo : Type 0 → Type 0 → ℕ → Option (List ℕ) → Option History → Option History → Finish → Type 0
-CameTo Cut Broke blocks left before now (Refused why) = ForSome before (λ h. Mounts blocks (content h) (Err why)) × SaysAlone Cut (refusal_text why) before now
-CameTo Cut Broke blocks left before now (Ended end) = RanOver Cut Broke (KeepsLines blocks now end) blocks left before now end
-CameTo Cut Broke blocks left before now (Unclosed end why) = IsTrue (closes end) × RanOver Cut Broke (λ opening done. Unit {0}) blocks left before now end
+abbrev pub CameTo : Type 0 → Type 0 → ℕ → Option (List ℕ) → Option (List ℕ) → Option (List ℕ) → Option History → Option History → Finish → Type 0
+CameTo Cut Broke blocks left times times' before now (Refused why) =
+    ForSome before (λ h. Mounts blocks (content h) (Err why)) × SaysAlone Cut (refusal_text why) before now × (times' ≡ times)
+CameTo Cut Broke blocks left times times' before now (Ended end) =
+    RanOver Cut Broke (KeepsLines blocks now end) (IsClocked times times' end) blocks left before now end
+CameTo Cut Broke blocks left times times' before now (Unclosed end why) =
+    IsTrue (closes end) × RanOver Cut Broke (λ opening done. Unit {0}) (IsClocked times times' end) blocks left before now end
 
 -- ---- the statuses
 

@@ -16,10 +16,11 @@ use Rattle.highlight.specs.Run.{DoneLine, IsGood, IsBad, KeepsLimits, PassesLimi
 use Rattle.highlight.specs.declared.end.End.{End}
 use Rattle.highlight.specs.declared.end.End.TheVariants.{Finished, BadLine, Output, Broken, Input, Memory, TooLong}
 
--- the files in memory, and the number under which the disk keeps files
+-- the files in memory, the number under which the disk keeps files, and the time that the last line was given
 pub record Held : Type 0 where
   pub files : Plain
   pub number : ℕ
+  pub time : ℕ
 
 -- These bytes are a line that is served, and this text is its answer on these files. It is broken where the disk failed it.
 pub record Answers (blocks : ℕ) (old new : Held) (bytes out : List ℕ) (broken : Bool) (before now : Option History) (line : Line) : Type 0 where
@@ -49,6 +50,7 @@ pub record Step (blocks : ℕ) (old new : Held) (before now : Option History) (S
   pub saving : Runs before middle (IsSaving blocks old.number old.files.tree)
   pub kept : KeepsDisk blocks old.number old.files d.line d.answer before middle new.number
   pub says : Saying middle now (answer_line d.answer)
+  pub time : d.time ≡ new.time
 
 -- What a turn does to the bytes that are left, to the files, to the disk and to what is said.
 abbrev pub Turns : Type 0 → ℕ → ℕ → Ahead → Ahead → Held → Held → List ℕ → Option (List ℕ) → Option History → Option History → Result Bool End → Type 0
@@ -76,4 +78,4 @@ Tells Cut text broken before now _ = ⊥
 
 -- what a world has besides its machine
 abbrev pub held : {M : Type 0} → Standing M → Held
-held world = record { files = world.files; number = world.number }
+held world = record { files = world.files; number = world.number; time = world.time }

@@ -7,6 +7,7 @@ ghost use Rattle.hl_media.specs.Saying.{Says};
 ghost use Rattle.hl_disk.specs.Saves.{IsSaving};
 ghost use Rattle.hl_script.specs.declared.line.Line.{Line};
 ghost use Rattle.hl_world.specs.Worlds.{IsReady, is_eio as is_eio_answer};
+ghost use Rattle.highlight.specs.Clocks.{AsksFor};
 ghost use Rattle.highlight.specs.Run.{IsBad};
 ghost use Rattle.highlight.specs.Turn.{Answers, SaysOrFails, Tells, held};
 
@@ -40,6 +41,7 @@ pub fn answer<M: Machine, C: Clock>(
     ensures saving { Runs (M.history world.old.machine) (M.history world.new.machine) (IsSaving (M.blocks world.old.machine) world.old.number world.old.files.tree) }
     ensures broken { IfOk result (λ a. IsTrue a.broken → Rose (M.faults world.old.machine) (M.faults world.new.machine) × Rose (M.write_faults world.old.machine) (M.write_faults world.new.machine)) }
     ensures later { (M.faults world.old.machine ≤ M.faults world.new.machine) × (M.write_faults world.old.machine ≤ M.write_faults world.new.machine) }
+    ensures clock { AsksFor (C.times clock.old) (C.times clock.new) world.new.time result }
     ensures blocks { M.blocks world.new.machine ≡ M.blocks world.old.machine }
     ensures say_faults { M.say_faults world.new.machine ≡ M.say_faults world.old.machine }
 {

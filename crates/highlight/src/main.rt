@@ -14,16 +14,15 @@ mod served;
 mod tests;
 mod top;
 mod turn;
-mod volume;
 
 use disk::open_disk;
-use hl_host::{FileMachine, StdClock, StdSource};
+use hl_host::{FileMachine, FileVolume, StdClock, StdSource};
 use hl_media::Rack;
 use std::alloc::AllocError;
+use std::fs::File;
 use std::process::ExitCode;
 use std::{env, io};
 use top::highlight;
-use volume::Blank;
 
 /// Does what the words after the program's name say, over the file
 /// `disk.img` of the current folder, the standard streams and the system's clock, and ends with
@@ -40,7 +39,7 @@ fn status(rt: HostRuntime) -> Result<u8, AllocError> {
     let words = words(rt)?;
     let (file, blocks) = open_disk(rt);
     let machine = FileMachine::new(file, blocks, rt.stdout());
-    let volumes: Vec<Blank> = Vec::new(alloc);
+    let volumes: Vec<FileVolume<File>> = Vec::new(alloc);
     let rack = match Rack::new(alloc, volumes) {
         Ok(rack) => rack,
         Err(_) => return Err(AllocError),

@@ -40,7 +40,7 @@ pub fn run_mounted<S: Source, M: Machine, C: Clock>(
 ) -> (Finish, M)
     requires room { 2112 ≤ M.blocks machine }
     ensures came { CameTo (Rose (M.say_faults machine) (M.say_faults result.1)) (Rose (M.write_faults machine) (M.write_faults result.1)) (M.blocks machine)
-        (S.left input.old) (M.history machine) (M.history result.1) result.0 }
+        (S.left input.old) (C.times clock.old) (C.times clock.new) (M.history machine) (M.history result.1) result.0 }
     ensures blocks { M.blocks result.1 ≡ M.blocks machine }
     ensures input { status_of result.0 ≡ 7 → Rose (S.faults input.old) (S.faults input.new) }
     ensures input_later { S.faults input.old ≤ S.faults input.new }

@@ -4,7 +4,7 @@ ghost use Rattle.std.specs.Prelude.{◌≡◌, ◌≤◌, IfSome};
 ghost use Rattle.hl_media.specs.Causes.{Rose};
 ghost use Rattle.hl_media.specs.Moments.{Runs};
 ghost use Rattle.hl_world.specs.Worlds.{IsReady};
-ghost use Rattle.highlight.specs.Run.{RanBy, input_limit};
+ghost use Rattle.highlight.specs.Run.{IsClocked, RanBy, input_limit};
 ghost use Rattle.highlight.specs.Runs.{OpensAs, LeavesLines};
 ghost use Rattle.hl_dump.specs.Dumps.{dump_limits};
 ghost use Rattle.highlight.specs.Turn.{held};
@@ -32,6 +32,7 @@ pub fn run<S: Source, M: Machine, C: Clock>(
     ensures ready { IsReady world.new }
     ensures ran { IfSome (S.left input.old) (λ bytes. RanBy Runs (Rose (M.say_faults world.old.machine) (M.say_faults world.new.machine)) (Rose (M.write_faults world.old.machine) (M.write_faults world.new.machine))
         (LeavesLines (M.blocks world.old.machine) (held world.old) (held world.new) (M.history world.old.machine) (M.history world.new.machine) result)
+        (IsClocked (C.times clock.old) (C.times clock.new) result)
         (M.blocks world.old.machine) dump_limits input_limit world.old.files.tree bytes result (M.history world.old.machine) (M.history world.new.machine)) }
     ensures blocks { M.blocks world.new.machine ≡ M.blocks world.old.machine }
     ensures input { result ≡ End.Input → Rose (S.faults input.old) (S.faults input.new) }

@@ -90,30 +90,59 @@ fn listed(rt: &impl Abort, alloc: Global, image: &[u8], texts: &[&[u8]]) -> Resu
     let machine = machine_of(alloc, image)?;
     let ended = highlight(alloc, &words, &mut source, machine, rack, &mut clock);
     assert_eq!(rt; ended.status, 0);
-    match texts.iter().position(|text| ended.machine.said() == *text) {
-        Some(place) => Ok(place),
-        None => panic!(rt; "a tree of no first lines"),
+    for (place, text) in texts.iter().enumerate() {
+        if are_same(ended.machine.said(), text) {
+            return Ok(place);
+        }
     }
+    panic!(rt; "a tree of no first lines")
 }
 
-/// Every image that a stop may leave since a moment holds one of these trees, and none that comes before the first of
-/// those that an earlier moment leaves.
+fn are_same(said: &[u8], text: &[u8]) -> bool {
+    said == text
+}
+
+/// A line of a run: how many device calls it makes, the last of them to say its answer, and the place of the tree behind
+/// it. A line that keeps the files makes more calls than one.
+type Step = (u64, usize);
+
+/// The places of the trees behind the last line that is said in whole by the end of so many calls, of which `start` come
+/// before the first line, and behind the last of those that keep the files.
+fn said_by(calls: u64, start: u64, steps: &[Step]) -> (usize, usize) {
+    let mut ended = start;
+    let mut said = 0;
+    let mut kept = 0;
+    for step in steps {
+        ended = ended.saturating_add(step.0);
+        if ended <= calls {
+            said = step.1;
+            if step.0 > 1 {
+                kept = said;
+            }
+        }
+    }
+    (kept, said)
+}
+
+/// Every image that a stop may leave since the first line holds the files after some number of the lines: no fewer than up
+/// to the last that was kept and said by then, and no more than were said. Each of these trees is another.
 fn stops(
     rt: &impl Abort,
     alloc: Global,
     machine: &MemMachine,
-    since: u64,
+    (start, steps): (u64, &[Step]),
     texts: &[&[u8]],
 ) -> Result<(), Fail> {
-    let mut least = 0;
-    for moment in since..machine.now() {
-        let mut lowest = texts.len();
-        for tear in [Tear::Old, Tear::New, Tear::Prefix(5000), Tear::Filled(255)] {
-            let image = machine.stop_image(alloc, moment, tear)?;
-            lowest = lowest.min(listed(rt, alloc, &image, texts)?);
+    for moment in 0..=machine.now() {
+        if moment / 2 < start {
+            continue;
         }
-        assert!(rt; lowest >= least, "moment {moment}");
-        least = lowest;
+        let (least, most) = said_by(moment / 2, start, steps);
+        for tear in [Tear::Old, Tear::New, Tear::Prefix(100), Tear::Prefix(2048)] {
+            let image = machine.stop_image(alloc, moment, tear)?;
+            let place = listed(rt, alloc, &image, texts)?;
+            assert!(rt; least <= place && place <= most, "moment {moment}");
+        }
     }
     Ok(())
 }
@@ -213,48 +242,76 @@ fn a_later_run_finds_what_an_earlier_one_left(rt: HostRuntime) -> Result<(), Fai
     Ok(())
 }
 
+/// The calls that come before the first line: those of `mkfs` and of the mount. Closing makes four.
+fn calls_before_lines(rt: &impl Abort, alloc: Global) -> Result<u64, Fail> {
+    let empty = ran(rt, alloc, made(rt, alloc)?, b"", 0, (0, b""))?;
+    Ok((empty.now() / 2).saturating_sub(4))
+}
+
+#[test]
+fn each_failing_device_has_its_status(rt: HostRuntime) -> Result<(), Fail> {
+    let alloc = rt.alloc();
+    let start = calls_before_lines(&rt, alloc)?;
+    // A line is one call, and a sync five, of which the last says its answer. Each read of the input takes ten bytes.
+    let script = b"create /a\nsync\ncreate /b\n";
+    let rows: [(u64, u64, u8, &[u8]); 11] = [
+        (0, 0, 0, b"ok\nok\nok\n"),
+        (0, 1, 7, b""),
+        (0, 2, 7, b"ok\n"),
+        (1, 0, 6, b"o"),
+        (2, 0, 5, b"ok\nerr EIO\n"),
+        (3, 0, 5, b"ok\nerr EIO\n"),
+        (4, 0, 5, b"ok\nerr EIO\n"),
+        (5, 0, 5, b"ok\nerr EIO\n"),
+        (6, 0, 6, b"ok\no"),
+        (7, 0, 6, b"ok\nok\no"),
+        (8, 0, 5, b"ok\nok\nok\n"),
+    ];
+    for (call, read, status, text) in rows {
+        let mut machine = made(&rt, alloc)?;
+        if call > 0 {
+            machine.fail_call(alloc, start.saturating_add(call))?;
+        }
+        let mut source = MemSource::new(Vec::from_slice(alloc, script)?, 10);
+        source.fail_call(alloc, read)?;
+        called(&rt, alloc, &["run"], source, machine, (status, text))?;
+    }
+    Ok(())
+}
+
 #[test]
 fn a_disk_that_fails_keeps_what_was_synced(rt: HostRuntime) -> Result<(), Fail> {
     let alloc = rt.alloc();
-    let empty = ran(&rt, alloc, made(&rt, alloc)?, b"", 0, (0, b""))?;
+    let start = calls_before_lines(&rt, alloc)?;
     let mut machine = made(&rt, alloc)?;
-    let since = machine.now();
-    // A run over no lines mounts, and closes by four calls; a line is one call, and a sync five.
-    let mounted = (empty.now() / 2).saturating_sub(4);
-    machine.fail_call(alloc, mounted.saturating_add(8))?;
+    machine.fail_call(alloc, start.saturating_add(8))?;
     let script = b"create /a\nsync\ncreate /b\nsync\nlist /\n";
     let want = b"ok\nok\nok\nerr EIO\n";
     let machine = ran(&rt, alloc, machine, script, 0, (5, want))?;
-    stops(
-        &rt,
-        alloc,
-        &machine,
-        since,
-        &[b"names\n", b"names a\n", b"names a b\n"],
-    )
+    let steps = [(1, 1), (5, 1), (1, 2)];
+    let texts: [&[u8]; 3] = [b"names\n", b"names a\n", b"names a b\n"];
+    stops(&rt, alloc, &machine, (start, &steps), &texts)
 }
 
 #[test]
 fn a_stop_leaves_the_files_after_some_first_lines(rt: HostRuntime) -> Result<(), Fail> {
     let alloc = rt.alloc();
-    let mut machine = made(&rt, alloc)?;
-    let since = machine.now();
+    let start = calls_before_lines(&rt, alloc)?;
     let script = b"create /a\nsync\nrename /a /b\nmkdir /c\nsync\nunlink /b\n";
-    machine = ran(
-        &rt,
-        alloc,
-        machine,
-        script,
-        0,
-        (0, b"ok\nok\nok\nok\nok\nok\n"),
-    )?;
-    stops(
-        &rt,
-        alloc,
-        &machine,
-        since,
-        &[b"names\n", b"names a\n", b"names b c\n", b"names c\n"],
-    )
+    let want = b"ok\nok\nok\nok\nok\nok\n";
+    let machine = ran(&rt, alloc, made(&rt, alloc)?, script, 0, (0, want))?;
+    let steps = [(1, 1), (5, 1), (1, 2), (1, 3), (5, 3), (1, 4)];
+    let texts: [&[u8]; 5] = [
+        b"names\n",
+        b"names a\n",
+        b"names b\n",
+        b"names b c\n",
+        b"names c\n",
+    ];
+    stops(&rt, alloc, &machine, (start, &steps), &texts)?;
+    let image = machine.stop_image(alloc, machine.now(), Tear::Old)?;
+    assert!(rt; listed(&rt, alloc, &image, &texts)? == 4);
+    Ok(())
 }
 
 #[test]
@@ -262,7 +319,7 @@ fn a_stop_of_mkfs_leaves_no_label_or_the_root(rt: HostRuntime) -> Result<(), Fai
     let alloc = rt.alloc();
     let disk = made(&rt, alloc)?;
     let mut mounted = 0;
-    for moment in 0..disk.now() {
+    for moment in 0..=disk.now() {
         for tear in [Tear::Old, Tear::New, Tear::Prefix(100), Tear::Filled(255)] {
             let image = disk.stop_image(alloc, moment, tear)?;
             let begins = image.get(..8) == Some(b"HLLABEL1".as_slice());

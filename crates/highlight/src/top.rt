@@ -36,16 +36,17 @@ pub fn highlight<S: Source, M: Machine, V: Volume, C: Clock>(
     rack: Rack<V>,
     clock: &mut C,
 ) -> Ended<M, V>
-    // Which status comes, and what it says of the input, the output and the disk, at each moment.
+    // Which status comes, and what it says of the input, the clock, the output and the disk, at each moment.
     ensures usage { (result.status ≡ 2) ↔ (IsForm (map string_bytes words.now) → ⊥) }
     ensures usage_said { result.status ≡ 2 → SaysAlone (Rose (M.say_faults machine) (M.say_faults result.machine)) usage_text (M.history machine) (M.history result.machine) }
     ensures small { IsForm (map string_bytes words.now) → (result.status ≡ 9) ↔ (M.blocks machine < 2112) }
     ensures small_said { result.status ≡ 9 → SaysAlone (Rose (M.say_faults machine) (M.say_faults result.machine)) small_text (M.history machine) (M.history result.machine) }
     ensures run { IsRun (map string_bytes words.now) → 2112 ≤ M.blocks machine → (finish : Finish) × (result.status ≡ status_of finish)
         × CameTo (Rose (M.say_faults machine) (M.say_faults result.machine)) (Rose (M.write_faults machine) (M.write_faults result.machine)) (M.blocks machine)
-        (S.left input.old) (M.history machine) (M.history result.machine) finish }
+        (S.left input.old) (C.times clock.old) (C.times clock.new) (M.history machine) (M.history result.machine) finish }
     ensures mkfs { IsMkfs (map string_bytes words.now) → 2112 ≤ M.blocks machine → (making : Making) × (result.status ≡ status_of_making making)
         × Makes (M.blocks machine) (M.history machine) (M.history result.machine) making }
+    ensures unasked { (IsRun (map string_bytes words.now) → ⊥) → C.times clock.new ≡ C.times clock.old }
     ensures statuses { IsStatus result.status }
     ensures complete { IsRun (map string_bytes words.now) → 2112 ≤ M.blocks machine → IsWhole (M.blocks machine) (S.left input.old) (M.history machine)
         → (Rose (M.faults machine) (M.faults result.machine) → ⊥) → (Rose (M.say_faults machine) (M.say_faults result.machine) → ⊥) → (Rose (S.faults input.old) (S.faults input.new) → ⊥)

@@ -4,6 +4,7 @@ ghost use Rattle.std.specs.Prelude.{◌≡◌, ◌≤◌, ◌<◌, IsTrue, OnOk,
 ghost use Rattle.std.specs.Io.KnownBytes.{prepend_known};
 ghost use Rattle.hl_media.specs.Causes.{Rose};
 ghost use Rattle.hl_world.specs.Worlds.{IsReady};
+ghost use Rattle.highlight.specs.Clocks.{Asks};
 ghost use Rattle.highlight.specs.Run.{bad_text};
 ghost use Rattle.highlight.specs.Turn.{SaysOrFails, Turns, held};
 
@@ -68,6 +69,7 @@ pub fn turn<S: Source, M: Machine, C: Clock>(
     ensures broken { result ≡ Err End.Broken → Rose (M.faults world.old.machine) (M.faults world.new.machine) × Rose (M.write_faults world.old.machine) (M.write_faults world.new.machine) }
     ensures disk_later { (M.faults world.old.machine ≤ M.faults world.new.machine) × (M.write_faults world.old.machine ≤ M.write_faults world.new.machine) }
     ensures others { result ≡ Err End.Finished → ⊥ }
+    ensures clock { Asks (C.times clock.old) (C.times clock.new) world.new.time result }
 {
     let mut bytes = Vec::new(alloc);
     match lines.next(alloc, input, &mut bytes) {

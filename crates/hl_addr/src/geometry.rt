@@ -6,10 +6,10 @@ ghost use Rattle.hl_addr.specs.Slots.{HasSlot, slot_number};
 ghost use Rattle.hl_addr.specs.Place.{IsAt, LiesIn, slot_segment, top};
 ghost use Rattle.hl_addr.specs.declared.place.Place.{Place};
 
-use crate::limits::table_blocks_for;
+use crate::limits::{is_within_limits, table_blocks_for};
 use crate::numbers::Numbers;
 use crate::place::{NOTHING, Place};
-use crate::slots::{are_slot_counts, slot_at, slot_count, slots_before};
+use crate::slots::{slot_at, slot_count, slots_before};
 use std::alloc::{AllocError, Global};
 use std::marker::Model;
 
@@ -42,13 +42,7 @@ impl Geometry {
         ensures made { IfSome result (λ g. g ≡ record { k = k; log = log; lines = lines; inodes = inodes; volumes = volumes }) }
         ensures refused { IsSome result ↔ IsWithinLimits (record { k = k; log = log; lines = lines; inodes = inodes; volumes = volumes }) }
     {
-        let counts_fit = matches!(k, 64 | 128 | 256 | 512)
-            && (16..=4096).contains(&log)
-            && (13..=256).contains(&lines)
-            && (2..=2048).contains(&inodes)
-            && (1..=32).contains(&volumes.items().len())
-            && are_slot_counts(volumes.items());
-        if counts_fit && table_blocks_for(log, inodes, volumes.items()) <= k / 2 {
+        if is_within_limits(k, log, lines, inodes, volumes.items()) {
             Some(Geometry {
                 k,
                 log,

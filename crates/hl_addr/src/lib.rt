@@ -8,7 +8,7 @@ mod place;
 mod slots;
 
 pub use geometry::Geometry;
-pub use limits::table_blocks_for;
+pub use limits::{is_within_limits, table_blocks_for};
 pub use numbers::Numbers;
 pub use place::{NOTHING, Place};
 

@@ -2,7 +2,7 @@
 use Rattle.std.proofs.Common.{◌≡◌, ◌↔◌, ℕ, ◌+◌, ◌-◌, ◌<◌, ◌≤◌, ◌^◌, List, take, drop, Option, Bool, true, false, cond, Some, None, refl, sym, ap, subst, ◌∙◌, arith}
 use Rattle.std.specs.Prelude.{IsNone}
 use Rattle.std.proofs.lemmas.Bool.{false≢true}
-use Rattle.std.proofs.lemmas.List.{take-take, drop-take}
+use Rattle.std.proofs.lemmas.List.{take-take, drop-take, drop-drop}
 use Rattle.hl_bytes.specs.Fields.{u32_at, u64_at, le32, le64}
 use Rattle.hl_bytes.proofs.Places.{back32, back64}
 
@@ -12,6 +12,11 @@ part_front xs at k n le =
     let e : n ≡ at + (n - at) = omega arith in
     let short : k ≤ n - at = omega arith in
     ap (λ (m : ℕ). take k (drop at (take m xs))) e ∙ ap (take k) (drop-take at (n - at) xs) ∙ take-take k (n - at) (drop at xs) short
+
+-- a part of what stands at a place
+pub inside : (bytes whole part : List ℕ) (at k n m : ℕ) → take n (drop at bytes) ≡ whole → k + m ≤ n → take m (drop k whole) ≡ part → take m (drop (at + k) bytes) ≡ part
+inside bytes whole part at k n m is le within =
+    ap (take m) (sym (drop-drop k at bytes)) ∙ sym (part_front (drop at bytes) k m n le) ∙ ap (λ (l : List ℕ). take m (drop k l)) is ∙ within
 
 pub read32 : (block fields : List ℕ) (at n v : ℕ) → take n block ≡ fields → at + 4 ≤ n → v < 2 ^ 32 → take 4 (drop at fields) ≡ le32 v → u32_at at block ≡ v
 read32 block fields at n v front le lt is = back32 block at v lt (sym (part_front block at 4 n le) ∙ ap (λ (l : List ℕ). take 4 (drop at l)) front ∙ is)

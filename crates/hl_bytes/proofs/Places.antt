@@ -161,3 +161,10 @@ pub part_is : (xs from part : List ℕ) (at n : ℕ) (r : Bool) → Decides r (p
 part_is xs from part at n r decides is size =
     let split : take (at + length from) xs ≡ take at xs ++ part = take-add at (length from) xs ∙ ap (λ (l : List ℕ). take at xs ++ l) (ap (λ (k : ℕ). take k (drop at xs)) (sym size) ∙ sym is) in
     (λ t. split ∙ ap (λ (l : List ℕ). take at xs ++ l) (decides.0 t), λ e. decides.1 (append_cancel_left (take at xs) _ _ (sym split ∙ e)))
+
+-- bytes that stand at a place are spelled by the number that is read there
+pub respelled32 : (xs : List ℕ) (at : ℕ) → at + 4 ≤ length xs → IsBytes xs → le32 (u32_at at xs) ≡ take 4 (drop at xs)
+respelled32 xs at le fits = append_cancel_left (take at xs) (le32 (u32_at at xs)) (take 4 (drop at xs)) (sym (front32 xs at (u32_at at xs) le fits refl) ∙ take-add at 4 xs)
+
+pub respelled64 : (xs : List ℕ) (at : ℕ) → at + 8 ≤ length xs → IsBytes xs → le64 (u64_at at xs) ≡ take 8 (drop at xs)
+respelled64 xs at le fits = append_cancel_left (take at xs) (le64 (u64_at at xs)) (take 8 (drop at xs)) (sym (front64 xs at (u64_at at xs) le fits refl) ∙ take-add at 8 xs)

@@ -13,13 +13,13 @@ pub struct SegBuf {
 
 impl Model for SegBuf {
     ghost use Rattle.std.specs.Prelude.{ℕ, List};
-    ghost use Rattle.hl_bytes.specs.Wholes.{IsWhole};
+    ghost use Rattle.hl_bytes.specs.Wholes.{IsBuffer};
 
     ghost Value = { List ℕ };
 
     ghost view = { λ b. b.bytes.items };
 
-    ghost invariant = { λ b. IsWhole b.bytes.items };
+    ghost invariant = { λ b. IsBuffer b.bytes.items };
 }
 
 impl SegBuf {

@@ -1,8 +1,9 @@
 //! The records of a summary: which blocks it describes, and which changes of the tables.
 
 ghost use Rattle.std.specs.Prelude.{◌≡◌, ◌≤◌, ◌+◌, ◌*◌, ◌++◌, IfOk, length, take};
+ghost use Rattle.std.specs.List.{AllByRecursion};
 ghost use Rattle.hl_bytes.specs.Fields.{written};
-ghost use Rattle.hl_bytes.specs.Records.{block_record_bytes, table_record_bytes, block_record_at, table_record_at, block_records_bytes, table_records_bytes, block_records_at, table_records_at};
+ghost use Rattle.hl_bytes.specs.Records.{IsBlockRecord, IsTableRecord, block_record_bytes, table_record_bytes, block_record_at, table_record_at, block_records_bytes, table_records_bytes, block_records_at, table_records_at};
 
 use crate::fields::{get_u32, get_u64, put_u32, put_u64, put_zeros};
 use std::alloc::{AllocError, Global};
@@ -38,7 +39,8 @@ pub fn get_block_record(bytes: &[u8], at: usize) -> BlockRecord
 /// Writes a block record into the eight bytes from `at` on.
 pub fn put_block_record(bytes: &mut [u8], at: usize, block: &BlockRecord)
     requires { at + 8 ≤ length bytes.old }
-    ensures { bytes.new ≡ written bytes.old at (block_record_bytes block.now) }
+    ensures bytes { bytes.new ≡ written bytes.old at (block_record_bytes block.now) }
+    ensures fits { IsBlockRecord block.now }
 {
     put_u32(bytes, at, block.ino);
     put_u32(bytes, at + 4, block.index);
@@ -61,7 +63,8 @@ pub fn get_table_record(bytes: &[u8], at: usize) -> TableRecord
 /// Writes a table record into the 24 bytes from `at` on.
 pub fn put_table_record(bytes: &mut [u8], at: usize, change: &TableRecord)
     requires { at + 24 ≤ length bytes.old }
-    ensures { bytes.new ≡ written bytes.old at (table_record_bytes change.now) }
+    ensures bytes { bytes.new ≡ written bytes.old at (table_record_bytes change.now) }
+    ensures fits { IsTableRecord change.now }
 {
     put_u32(bytes, at, change.kind);
     put_u32(bytes, at + 4, change.a);
@@ -75,6 +78,7 @@ pub fn put_block_records(bytes: &mut [u8], at: usize, blocks: &[BlockRecord])
     requires { at + 8 * length blocks.now ≤ length bytes.old }
     ensures whole { bytes.new ≡ written bytes.old at (block_records_bytes blocks.now) }
     ensures front { take (at + 8 * length blocks.now) bytes.new ≡ take at bytes.old ++ block_records_bytes blocks.now }
+    ensures fit { AllByRecursion IsBlockRecord blocks.now }
 {
     'put: for (i, block) in blocks.iter().enumerate() {
         put_block_record(bytes, at + 8 * i, block);
@@ -103,6 +107,7 @@ pub fn put_table_records(bytes: &mut [u8], at: usize, changes: &[TableRecord])
     requires { at + 24 * length changes.now ≤ length bytes.old }
     ensures whole { bytes.new ≡ written bytes.old at (table_records_bytes changes.now) }
     ensures front { take (at + 24 * length changes.now) bytes.new ≡ take at bytes.old ++ table_records_bytes changes.now }
+    ensures fit { AllByRecursion IsTableRecord changes.now }
 {
     'put: for (i, change) in changes.iter().enumerate() {
         put_table_record(bytes, at + 24 * i, change);

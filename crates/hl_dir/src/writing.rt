@@ -1,7 +1,7 @@
 //! Writing a directory's bytes.
 
 ghost use Rattle.std.specs.Prelude.{◌≡◌, ◌≤◌, ◌++◌, length, OnOk, IfOk};
-ghost use Rattle.hl_dir.specs.Dirs.{AreSorted, dir_bytes, entry_bytes};
+ghost use Rattle.hl_dir.specs.Dirs.{AreSorted, HasRoom, Spells, dir_bytes, entry_bytes};
 
 use crate::entry::Entry;
 use std::alloc::{AllocError, Global};
@@ -10,7 +10,8 @@ use std::alloc::{AllocError, Global};
 #[tactic(auto, unfolding(hl_bytes::specs::Fields::le32))]
 fn put_entry(out: &mut Vec<u8>, entry: &Entry) -> Result<(), AllocError>
     requires { length entry.now.name ≤ 255 }
-    ensures { OnOk result (out.new.items ≡ out.old.items ++ entry_bytes entry.now) }
+    ensures bytes { OnOk result (out.new.items ≡ out.old.items ++ entry_bytes entry.now) }
+    ensures room { OnOk result (HasRoom entry.now) }
 {
     let name = entry.name.items();
     out.extend_from_slice(&entry.ino.to_le_bytes())?;
@@ -19,10 +20,12 @@ fn put_entry(out: &mut Vec<u8>, entry: &Entry) -> Result<(), AllocError>
     Ok(())
 }
 
-/// The one spelling of entries that have names and stand in their order.
+/// The one spelling of entries that have names and stand in their order, which is read as these
+/// entries.
 pub fn encode(alloc: Global, entries: &[Entry]) -> Result<Vec<u8>, AllocError>
     requires { AreSorted entries.now }
-    ensures { IfOk result (λ bytes. bytes.items ≡ dir_bytes entries.now) }
+    ensures bytes { IfOk result (λ bytes. bytes.items ≡ dir_bytes entries.now) }
+    ensures spelled { IfOk result (λ bytes. Spells bytes.items entries.now) }
 {
     let mut out = Vec::new(alloc);
     for entry in entries {

@@ -3,7 +3,7 @@ use Rattle.std.proofs.Common.{◌≡◌, ℕ, zero, suc, ◌*◌, ◌≤◌, Lis
 use Rattle.std.proofs.lemmas.List.{length-replicate}
 use Rattle.sha2.specs.Sha256.{sha256}
 use Rattle.hl_bytes.proofs.Seals.{length-sha256}
-use Rattle.hl_media.specs.History.{block_of}
+use Rattle.hl_bytes.specs.Buffers.{block_of}
 use Rattle.hl_super.specs.declared.label.Label.{Label}
 use Rattle.hl_super.specs.Labels.{label_bytes}
 use Rattle.hl_disk.specs.declared.record.DumpRecord.{DumpRecord}

@@ -2,7 +2,8 @@
 use Rattle.std.proofs.Common.{◌≡◌, ◌⊎◌, inl, inr, ⊎_elim, ℕ, ◌+◌, ◌-◌, ◌/◌, ◌<◌, ◌≤◌, true, List, [], length, get_or, refl, sym, ◌∙◌, ap, subst, arith, lit≤}
 use Rattle.hl_bytes.specs.Fields.{le32}
 use Rattle.hl_bytes.proofs.PageLemmas.{take-page}
-use Rattle.hl_media.specs.History.{Image, block_of, MachineState, begun, ended}
+use Rattle.hl_bytes.specs.Buffers.{block_of}
+use Rattle.hl_media.specs.History.{Image, MachineState, begun, ended}
 use Rattle.hl_media.specs.History.DeviceCall.{Write, Sync}
 use Rattle.hl_media.proofs.Images.{overwritten_in, overwritten_out, block_of_one}
 use Rattle.hl_super.specs.declared.label.Label.{Label}

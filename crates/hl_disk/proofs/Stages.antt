@@ -4,7 +4,8 @@ use Rattle.std.proofs.lemmas.Bool.{cases_lt}
 use Rattle.std.proofs.lemmas.List.{length-take-le}
 use Rattle.sha2.specs.Sha256.{sha256}
 use Rattle.hl_bytes.proofs.Seals.{length-sha256}
-use Rattle.hl_media.specs.History.{Image, area, overwritten, block_of, IsWhole, IsUntouched, PendingWrite, MachineState, begun, ended}
+use Rattle.hl_bytes.specs.Buffers.{block_of}
+use Rattle.hl_media.specs.History.{Image, area, overwritten, IsWhole, IsUntouched, PendingWrite, MachineState, begun, ended}
 use Rattle.hl_media.specs.History.DeviceCall.{Write, Sync}
 use Rattle.hl_media.proofs.Images.{overwritten_in, overwritten_out, area_same, area_overwritten, block_of_one}
 use Rattle.hl_tree.specs.Rules.{Files}

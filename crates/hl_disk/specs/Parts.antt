@@ -1,7 +1,7 @@
 -- The blocks that a disk is made of.
 use Rattle.std.specs.Prelude.{◌≡◌, ℕ, ◌<◌, List, [], length, get_or}
 use Rattle.sha2.specs.Sha256.{sha256}
-use Rattle.hl_media.specs.History.{block_of}
+use Rattle.hl_bytes.specs.Buffers.{block_of}
 use Rattle.hl_super.specs.declared.label.Label.{Label}
 use Rattle.hl_super.specs.Labels as labels
 use Rattle.hl_disk.specs.declared.record.DumpRecord.{DumpRecord}

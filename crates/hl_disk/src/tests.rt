@@ -1,7 +1,7 @@
 //! What no clause says: calls succeed where nothing fails, what a changed byte leaves, and which answer a failed call
 //! gives.
 
-ghost use Rattle.std.specs.Prelude.{◌≡◌, ◌<◌, IfOk};
+ghost use Rattle.std.specs.Prelude.{◌<◌, IfOk};
 ghost use Rattle.hl_dump.specs.Dumps.{HasDump};
 
 use crate::{
@@ -184,7 +184,6 @@ fn a_changed_byte_leaves_the_other_tree_or_none(rt: HostRuntime) -> Result<(), F
 /// Makes the call that is so many calls ahead fail.
 fn fail_ahead(alloc: Global, machine: &mut MemMachine, count: u64) -> Result<(), Fail>
     requires { count < 100 }
-    ensures { machine.new ≡ machine.old }
 {
     let made = machine.now() / 2;
     if made < 1_000 {

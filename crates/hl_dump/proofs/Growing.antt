@@ -20,7 +20,7 @@ use Rattle.hl_tree.proofs.Maps.{path_total}
 use Rattle.hl_tree.proofs.Places.{find_past, find_above, put_past, around}
 use Rattle.hl_tree.proofs.Room.{len-insert-le, len-root_alone}
 use Rattle.hl_tree.proofs.Sorted.{entries-root_alone}
-use Rattle.hl_tree.proofs.Tree.{IsTree-insert}
+use Rattle.hl_tree_laws.proofs.Tree.{IsTree-insert}
 use Rattle.hl_dump.specs.Dumps.{entry_bytes, dump_bytes, dump_size, dump_max, IsDump}
 use Rattle.hl_dump.specs.Reading.{Row, IsEntry}
 use Rattle.hl_dump.specs.Parsing.{Stands}

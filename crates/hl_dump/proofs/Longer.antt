@@ -20,10 +20,12 @@ use Rattle.hl_tree.specs.Moved.{put_all, kept_rows}
 use Rattle.hl_tree.specs.Tree.{moved, moved_entries, content_at}
 use Rattle.hl_tree.specs.Rules.{Files, Outcome, outcome, tree_of, after, make, write, cut, read, stat, list, unlink, rmdir, rename}
 use Rattle.hl_tree.proofs.Below.{append-below}
-use Rattle.hl_tree.proofs.Contents.{length-written, length-resized}
+use Rattle.hl_tree.proofs.Contents.{length-resized}
+use Rattle.hl_tree_laws.proofs.Contents.{length-written}
 use Rattle.hl_tree.proofs.Maps.{path_total, path_exact, entries-remove}
 use Rattle.hl_tree.proofs.Places.{all_above, find_above}
-use Rattle.hl_tree.proofs.Room.{content_at-Ok, length-where_key-le}
+use Rattle.hl_tree.proofs.Lookups.{content_at-finds}
+use Rattle.hl_tree.proofs.Room.{length-where_key-le}
 use Rattle.hl_tree.proofs.Sorted.{entries-moved, view_entries}
 use Rattle.hl_dump.specs.Dumps.{dump_size}
 use Rattle.hl_dump.specs.Longer.{content_in, past, most_growth, renamed}
@@ -204,7 +206,7 @@ module _ (limits : Limits) (t : Files) (r : Reply) (new : Files) where
           | false ↦ λ z.
               let is : new ≡ insert t path (File (written old at bytes)) = grind arith in
               let within : at + length bytes ≤ limits.bytes = grind arith in
-              let there : get t path ≡ Some (File old) = content_at-Ok limits t path old e in
+              let there : get t path ≡ Some (File old) = content_at-finds t path old e in
               let size = ap dump_size is in
               let file : past t path (at + length bytes) ≡ at + length bytes - length old = ap (λ o. at + length bytes - length (content_in o)) there in
               omega (arith, size, within, file, dump_size-file t path old (written old at bytes) there, length-written old at bytes)
@@ -219,7 +221,7 @@ module _ (limits : Limits) (t : Files) (r : Reply) (new : Files) where
         | Ok old ↦ λ e.
             let is : new ≡ insert t path (File (resized old size)) = grind arith in
             let within : size ≤ limits.bytes = grind arith in
-            let there : get t path ≡ Some (File old) = content_at-Ok limits t path old e in
+            let there : get t path ≡ Some (File old) = content_at-finds t path old e in
             let sizes = ap dump_size is in
             let file : past t path size ≡ size - length old = ap (λ o. size - length (content_in o)) there in
             omega (arith, sizes, within, file, dump_size-file t path old (resized old size) there, length-resized old size)

@@ -16,7 +16,7 @@ use Rattle.hl_tree.specs.Moved.{put_all, kept_rows}
 use Rattle.hl_tree.specs.Names.{IsName, AreNames, path_cmp, below, put_under, moved_path}
 use Rattle.hl_tree.specs.Tree.{moved, moved_entries, content_at}
 use Rattle.hl_tree.specs.Rules.{Files, Outcome, outcome, tree_of, after, make, write, cut, read, stat, list, unlink, rmdir, rename}
-use Rattle.hl_tree.proofs.After.{IsTree-after}
+use Rattle.hl_tree_laws.proofs.After.{IsTree-after}
 use Rattle.hl_tree.proofs.Below.{All-below}
 use Rattle.hl_tree.proofs.Maps.{path_total, entries-remove}
 use Rattle.hl_tree.proofs.Room.{outcome-fits}

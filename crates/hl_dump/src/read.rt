@@ -81,7 +81,7 @@ fn read_on(
         return Ok(None);
     }
     let end = entry.end;
-    tree.put(entry.path, entry.node)?;
+    tree.put(alloc, entry.path, entry.node)?;
     Ok(Some(end))
 }
 

@@ -4,12 +4,17 @@
 mod clock;
 mod faults;
 mod machine;
+mod opened;
+mod positional;
 mod source;
+mod volume;
 mod whole;
 
 pub use clock::StdClock;
 pub use machine::FileMachine;
+pub use positional::PositionalFile;
 pub use source::StdSource;
+pub use volume::FileVolume;
 
 #[cfg(test)]
 mod tests;

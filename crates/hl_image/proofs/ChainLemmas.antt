@@ -60,6 +60,12 @@ module _ (g : Layout) (a : Image) where
       let e : serial + length (p ∷ ps) ≡ serial + 1 + length ps = omega arith in
       (walk.0, walk-append (next_of p) (serial + 1) ps qs walk.1 (subst (λ (n : ℕ). Walk g a (end_of (next_of p) ps) n qs) e more))
 
+  pub walk_behind : (at : LogPlace) (serial : ℕ) (ps qs : List Summary) → Walk g a at serial (ps ++ qs) → Walk g a (end_of at ps) (serial + length ps) qs
+  walk_behind at serial [] qs walk = let e : serial ≡ serial + 0 = omega arith in subst (λ (n : ℕ). Walk g a at n qs) e walk
+  walk_behind at serial (p ∷ ps) qs walk =
+      let e : serial + 1 + length ps ≡ serial + length (p ∷ ps) = omega arith in
+      subst (λ (n : ℕ). Walk g a (end_of (next_of p) ps) n qs) e (walk_behind (next_of p) (serial + 1) ps qs walk.1)
+
   pub end_place : (at : LogPlace) (serial : ℕ) (ps : List Summary) → IsLogPlace g at → Walk g a at serial ps → IsLogPlace g (end_of at ps)
   end_place at serial [] is walk = is
   end_place at serial (p ∷ ps) is walk = end_place (next_of p) (serial + 1) ps (next_place g at p is (part_ranges g a at serial p walk.0)) walk.1

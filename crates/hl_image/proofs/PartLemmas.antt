@@ -4,11 +4,11 @@ use Rattle.std.proofs.lemmas.List.{take_at, take_all, take-take, drop-drop, leng
 use Rattle.std.proofs.lemmas.Bool.{cases_lt}
 use Rattle.std.proofs.Math.Seq.{take-add}
 use Rattle.std.proofs.Math.Nat.{mul-le-mul_left}
-use Rattle.hl_media.specs.History.{Image, area, block_of, HoldsAt}
+use Rattle.hl_media.specs.History.{Image, area, HoldsAt}
 use Rattle.hl_media.proofs.Images.{area_same, area_holds}
 use Rattle.hl_addr.specs.Layout.{Layout}
 use Rattle.hl_bytes.specs.Fields.{zeros}
-use Rattle.hl_bytes.specs.Buffers.{part_of}
+use Rattle.hl_bytes.specs.Buffers.{part_of, block_of}
 use Rattle.hl_summary.specs.declared.parts.Summary.{Summary}
 use Rattle.hl_summary.specs.Parts.{HasRanges, Spells, summary_in, part_bytes, summary_fields}
 use Rattle.hl_summary.proofs.SummaryLemmas.{only, whole_is, behind_is, length-fields}

@@ -1,7 +1,7 @@
 //! The chain of an image, by a plain walk over its bytes.
 
 ghost use Rattle.std.specs.Prelude.{◌≡◌, ◌≤◌, ◌-◌, ◌*◌, ◌↔◌, List as Items, Some, IsNone, IfOk, length, take, drop};
-ghost use Rattle.hl_media.specs.History.{block_of};
+ghost use Rattle.hl_bytes.specs.Buffers.{block_of};
 ghost use Rattle.hl_image.specs.Places.{block_at, log_end};
 ghost use Rattle.hl_image.specs.Parts.{IsPart, NoPart};
 ghost use Rattle.hl_image.specs.Chain.{IsCutChain, placed};

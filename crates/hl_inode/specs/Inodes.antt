@@ -28,14 +28,18 @@ pub record HasRanges (v : Inode) : Type 0 where
   pub direct : AreNothing ((v.size + 4095) / 4096) v.direct
   pub single : (49152 < v.size) ⊎ (v.single ≡ 4294967295)
 
--- an inode with twelve direct pointers, whose numbers have room in their fields
+-- twelve direct pointers, and numbers that have room in their fields
+pub record HasRoom (v : Inode) : Type 0 where
+  pub number : v.number < 2 ^ 32
+  pub used : v.used < 2 ^ 64
+  pub count : length v.direct ≡ 12
+  pub direct : AllByRecursion (λ n. n < 2 ^ 32) v.direct
+  pub single : v.single < 2 ^ 32
+
+-- an inode that a block can spell
 pub record IsInode (v : Inode) : Type 0 where
   pub ranges : HasRanges v
-  pub number_fits : v.number < 2 ^ 32
-  pub used_fits : v.used < 2 ^ 64
-  pub pointers : length v.direct ≡ 12
-  pub pointers_fit : AllByRecursion (λ n. n < 2 ^ 32) v.direct
-  pub single_fits : v.single < 2 ^ 32
+  pub room : HasRoom v
 
 -- the bytes `HLINODE1`
 abbrev pub magic : List ℕ

@@ -1,8 +1,11 @@
 //! An inode, which is one block.
 
-ghost use Rattle.std.specs.Prelude.{◌≡◌, ◌≤◌, ◌↔◌, ℕ, Some, IsNone, IsTrue, length};
-ghost use Rattle.hl_inode.specs.Inodes.{HasRanges, AreNothing, Spells, code_of, kind_of, inode_bytes, inode_in};
+ghost use Rattle.std.specs.Prelude.{◌≡◌, ◌≤◌, ◌↔◌, ℕ, Some, IsNone, IsTrue, ◌+◌, ◌*◌, ◌++◌, ◌<◌, ◌^◌, length, take};
+ghost use Rattle.std.specs.List.{AllByRecursion};
+ghost use Rattle.hl_bytes.specs.Runs.{numbers32};
+ghost use Rattle.hl_inode.specs.Inodes.{HasRanges, HasRoom, AreNothing, Spells, code_of, kind_of, inode_bytes, inode_in};
 
+use hl_addr::NOTHING;
 use hl_bytes::{
     BLOCK, end_plain_page, get_numbers, get_u32, get_u64, put_bytes, put_numbers, put_u32, put_u64,
 };
@@ -32,9 +35,6 @@ pub struct Inode {
 
 const MAGIC: [u8; 8] = *b"HLINODE1";
 
-/// The address of a hole.
-const NOTHING: u32 = 4_294_967_295;
-
 /// The most bytes of a file: 1,036 blocks.
 const SIZE_MAX: u64 = 4_243_456;
 
@@ -57,18 +57,30 @@ fn kind_of(code: u32) -> Kind
     if code == 2 { Kind::Dir } else { Kind::File }
 }
 
+/// Writes the direct pointers.
+fn put_direct(out: &mut [u8], pointers: &[u32; 12])
+    requires { length out.old ≡ 4096 }
+    ensures front { take 80 out.new ≡ take 32 out.old ++ numbers32 pointers.now }
+    ensures size { length out.new ≡ 4096 }
+    ensures count { length pointers.now ≡ 12 }
+    ensures room { AllByRecursion (λ n. n < 2 ^ 32) pointers.now }
+{
+    put_numbers(out, 32, pointers);
+}
+
 /// Writes the fields, and zeros behind them.
 #[tactic(auto, unfolding(crate::specs::Inodes::inode_bytes))]
 fn put_inode(inode: &Inode, out: &mut [u8])
     requires { length out.old ≡ 4096 }
-    ensures { out.new ≡ inode_bytes inode.now }
+    ensures bytes { out.new ≡ inode_bytes inode.now }
+    ensures room { HasRoom inode.now }
 {
     put_bytes(out, 0, &MAGIC);
     put_u32(out, 8, inode.number);
     put_u32(out, 12, code_of(inode.kind));
     put_u64(out, 16, inode.size);
     put_u64(out, 24, inode.used);
-    put_numbers(out, 32, &inode.direct);
+    put_direct(out, &inode.direct);
     put_u32(out, 80, inode.single);
     end_plain_page(out, 84);
 }
@@ -78,7 +90,8 @@ fn put_inode(inode: &Inode, out: &mut [u8])
 pub fn encode(inode: &Inode, out: &mut [u8])
     requires ranges { HasRanges inode.now }
     requires size { length out.old ≡ 4096 }
-    ensures { out.new ≡ inode_bytes inode.now }
+    ensures bytes { out.new ≡ inode_bytes inode.now }
+    ensures spelled { Spells out.new inode.now }
 {
     put_inode(inode, out);
 }

@@ -1,10 +1,9 @@
 //! What no clause says: worked bytes, and the ends of each range for both kinds.
 
 use super::*;
+use hl_addr::NOTHING;
 use hl_bytes::{BLOCK, has_bytes, put_u32, put_u64};
 use std::test::*;
-
-const NOTHING: u32 = 4_294_967_295;
 
 /// The longest file, and a directory of one block, with their other fields at the ends of their
 /// ranges.

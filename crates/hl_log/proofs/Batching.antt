@@ -1,76 +1,52 @@
 -- A part of a batch is a part of the site.
-use Rattle.std.proofs.Common.{◌≡◌, inl, inr, ℕ, ◌+◌, ◌-◌, ◌<◌, ◌≤◌, ◌^◌, Bool, List, length, take, drop, sum, sym, ◌∙◌, ap, subst, arith, length-drop}
+use Rattle.std.proofs.Common.{◌≡◌, inl, inr, ℕ, ◌+◌, ◌-◌, ◌<◌, ◌≤◌, Bool, List, length, take, drop, sum, sym, ◌∙◌, ap, subst, arith, length-drop}
 use Rattle.std.specs.Prelude.{◌&&◌, IsTrue, ◌↔◌, true, false}
 use Rattle.std.proofs.lemmas.Bool.{cases_lt}
-use Rattle.std.specs.List.{AllByRecursion}
 use Rattle.std.proofs.lemmas.List.{length-take-le}
-use Rattle.std.proofs.lemmas.List.Elements.{All-take, All-drop, All-weaker, recursion_from_All}
-use Rattle.hl_addr.specs.Layout.{Layout, IsWithinLimits, table_blocks}
-use Rattle.hl_bytes.specs.Records.{IsBlockRecord, IsTableRecord}
-use Rattle.hl_bytes.specs.declared.records.BlockRecord.{BlockRecord}
+use Rattle.std.proofs.lemmas.List.Elements.{All-take, All-drop}
+use Rattle.hl_addr.specs.Layout.{Layout, table_blocks}
 use Rattle.hl_bytes.specs.declared.records.TableRecord.{TableRecord}
 use Rattle.hl_summary.specs.Ranges.{IsBlockOf, IsChangeOf, IsNextPlace}
-use Rattle.hl_summary.specs.Parts.{IsSummary}
+use Rattle.hl_summary.specs.Parts.{HasRanges, with_records}
+use Rattle.hl_summary.specs.declared.parts.Heading.{Heading}
 use Rattle.hl_summary.specs.declared.parts.Summary.{Summary}
 use Rattle.hl_image.specs.Parts.{IsPartBytes}
-use Rattle.hl_log.specs.Headings.{heading_of}
 use Rattle.hl_log.specs.Steps.{own_blocks}
 use Rattle.hl_image.specs.declared.place.LogPlace.{LogPlace}
 use Rattle.hl_image.specs.Places.{IsLogPlace}
 use Rattle.hl_log.specs.declared.piece.Piece.{Piece}
 use Rattle.hl_log.specs.declared.piece.Left.{Left}
-use Rattle.hl_log.specs.Batches.{IsBatch, CanStand, part_of_unit, blocks_of_part}
+use Rattle.hl_log.specs.Batches.{IsBatch, CanStand, IsPartWhereItMay, part_of_unit, blocks_of_part}
 use Rattle.hl_log.specs.Cut.{Goes, LeavesBehind}
 use Rattle.hl_log.specs.Free.{AreClean}
 use Rattle.hl_log.specs.Units.{Brought}
-use Rattle.hl_log.proofs.Sites.{small_segments, few_tables}
+use Rattle.hl_log.proofs.Cleans.{first_in_log, first_apart}
 use Rattle.hl_log.proofs.Cutting.{place_then, within}
 
--- numbers of a block of a site have room in their fields
-fits : (inodes tables : ℕ) (r : BlockRecord) → inodes ≤ 2048 → tables ≤ 256 → IsBlockOf inodes tables r → IsBlockRecord r
-fits inodes tables r few_inodes few_tables (inl table) = (let a = table.0 in let b = table.1 in record { ino = omega arith; index = omega arith })
-fits inodes tables r few_inodes few_tables (inr (inl a, n)) = (let b = n.1 in record { ino = omega arith; index = omega arith })
-fits inodes tables r few_inodes few_tables (inr (inr (inl a), n)) = (let b = n.1 in record { ino = omega arith; index = omega arith })
-fits inodes tables r few_inodes few_tables (inr (inr (inr a), n)) = (let b = n.1 in record { ino = omega arith; index = omega arith })
-
-module _ (g : Layout) (limits : IsWithinLimits g) (head : LogPlace) (left : Left) (u : Brought) (p : Piece) (serial : ℕ) (last : Bool) (batch : IsBatch g u) (stands : CanStand g head left u p) where
+module _ (g : Layout) (head : LogPlace) (left : Left) (u : Brought) (p : Piece) (serial : ℕ) (last : Bool) (batch : IsBatch g u) (stands : CanStand g head left u p) where
   pub records_taken : length (take p.blocks (drop (length u.records - left.blocks) u.records)) ≡ p.blocks
   records_taken = length-take-le p.blocks (drop (length u.records - left.blocks) u.records) (omega (arith, length-drop (length u.records - left.blocks) u.records, stands.blocks, stands.blocks_left))
 
   pub changes_taken : length (take p.tables (drop (length u.changes - left.tables) u.changes)) ≡ p.tables
   changes_taken = length-take-le p.tables (drop (length u.changes - left.tables) u.changes) (omega (arith, length-drop (length u.changes - left.tables) u.changes, stands.tables, stands.tables_left))
 
-  pub summary_ok : serial < 2 ^ 64 → AllByRecursion IsTableRecord (take p.tables (drop (length u.changes - left.tables) u.changes)) → IsSummary g head.seg head.block (part_of_unit u left serial last p)
-  summary_ok fits_serial fit =
-      let s = part_of_unit u left serial last p in
-      let records_are = All-take (IsBlockOf g.inodes (table_blocks g)) p.blocks (drop (length u.records - left.blocks) u.records) (All-drop (IsBlockOf g.inodes (table_blocks g)) (length u.records - left.blocks) u.records batch.of.blocks) in
+  pub ranges_ok : HasRanges g head.seg head.block (part_of_unit u left serial last p)
+  ranges_ok =
+      let IsBlock = IsBlockOf g.inodes (table_blocks g) in
       let IsChange = IsChangeOf g.inodes (sum g.volumes) (length g.volumes) in
-      let changes_are = All-take IsChange p.tables (drop (length u.changes - left.tables) u.changes) (All-drop IsChange (length u.changes - left.tables) u.changes batch.of.tables) in
-      let inodes : g.inodes ≤ 2048 = limits.inode_count.1 in
-      let tables = few_tables g limits in
-      let log : g.log ≤ 4096 = limits.log_count.1 in
-      let k = small_segments g limits in
       record {
-        ranges = record {
-          place = record { seg_low = stands.place.low; seg_high = stands.place.high; block_high = stands.place.room };
-          within = omega (arith, stands.within, records_taken);
-          next = subst (λ (n : ℕ). IsNextPlace g head.seg head.block n p.next.seg p.next.block) (sym records_taken) stands.goes;
-          room = record { blocks = omega (arith, stands.blocks_most, records_taken); tables = omega (arith, stands.tables_most, changes_taken) };
-          blocks = records_are;
-          tables = changes_are;
-        };
-        serial_fits = fits_serial;
-        seg_fits = omega (arith, stands.next.high, log);
-        block_fits = omega (arith, stands.next.room, k);
-        blocks_fit = recursion_from_All IsBlockRecord (take p.blocks (drop (length u.records - left.blocks) u.records))
-            (All-weaker (IsBlockOf g.inodes (table_blocks g)) IsBlockRecord (λ r is. fits g.inodes (table_blocks g) r inodes tables is) (take p.blocks (drop (length u.records - left.blocks) u.records)) records_are);
-        tables_fit = fit;
+        place = record { seg_low = stands.place.low; seg_high = stands.place.high; block_high = stands.place.room };
+        within = omega (arith, stands.within, records_taken);
+        next = subst (λ (n : ℕ). IsNextPlace g head.seg head.block n p.next.seg p.next.block) (sym records_taken) stands.goes;
+        room = record { blocks = omega (arith, stands.blocks_most, records_taken); tables = omega (arith, stands.tables_most, changes_taken) };
+        blocks = All-take IsBlock p.blocks (drop (length u.records - left.blocks) u.records) (All-drop IsBlock (length u.records - left.blocks) u.records batch.of.blocks);
+        tables = All-take IsChange p.tables (drop (length u.changes - left.tables) u.changes) (All-drop IsChange (length u.changes - left.tables) u.changes batch.of.tables);
       }
 
 -- the next place of a part is one that its summary may name
 next_named : (g : Layout) (at : LogPlace) (n : ℕ) (clean : List ℕ) (next : LogPlace) (more : List ℕ) → AreClean g at.seg clean → Goes g at n clean next more → IsNextPlace g at.seg at.block n next.seg next.block
 next_named g at n clean next more cleans (inl near) = inl (near.0, near.1, near.2)
-next_named g at n clean next more cleans (inr far) = (let c = subst (AreClean g at.seg) far.1 cleans in inr (far.0, c.2, c.0, c.1, far.2))
+next_named g at n clean next more cleans (inr far) = (let c = subst (AreClean g at.seg) far.1 cleans in let in_log = first_in_log g at.seg next.seg more c in inr (far.0, first_apart g at.seg next.seg more c, in_log.0, in_log.1, far.2))
 
 -- a part that is cut off may stand
 pub can_stand : (g : Layout) (left behind : Left) (clean : List ℕ) (u : Brought) (p : Piece) → LeavesBehind g left clean p behind → IsLogPlace g left.at → AreClean g left.at.seg (drop left.used clean)
@@ -93,16 +69,15 @@ can_stand g left behind clean u p l place cleans records changes =
 -- the bytes that were filled are the part
 pub part_bytes_of : (g : Layout) (head : LogPlace) (left : Left) (u : Brought) (p : Piece) (serial : ℕ) (last : Bool) (first : ℕ) (ends : Bool) (changes : List TableRecord) (bytes : List ℕ)
     → first ≡ length u.records - left.blocks → ends ≡ (u.closes && last) → changes ≡ take p.tables (drop (length u.changes - left.tables) u.changes)
-    → (IsSummary g head.seg head.block (heading_of (record { serial = serial; ends = ends; piece = p }) (take p.blocks (drop first u.records)) changes)
-    → IsPartBytes g head serial bytes (heading_of (record { serial = serial; ends = ends; piece = p }) (take p.blocks (drop first u.records)) changes))
-    → IsSummary g head.seg head.block (part_of_unit u left serial last p) → IsPartBytes g head serial bytes (part_of_unit u left serial last p)
+    → IsPartWhereItMay (with_records (record { serial = serial; next_seg = p.next.seg; next_block = p.next.block; ends = ends }) (take p.blocks (drop first u.records)) changes) bytes
+    → HasRanges g head.seg head.block (part_of_unit u left serial last p) → IsPartBytes g head serial bytes (part_of_unit u left serial last p)
 part_bytes_of g head left u p serial last first ends changes bytes first_is ends_is changes_are filled ok =
-    let s = heading_of (record { serial = serial; ends = ends; piece = p }) (take p.blocks (drop first u.records)) changes in
-    let same : s ≡ part_of_unit u left serial last p =
-    ap (λ (n : ℕ). heading_of (record { serial = serial; ends = ends; piece = p }) (take p.blocks (drop n u.records)) changes) first_is
-    ∙ ap (λ (e : Bool). heading_of (record { serial = serial; ends = e; piece = p }) (take p.blocks (drop (length u.records - left.blocks) u.records)) changes) ends_is
-    ∙ ap (λ (l : List TableRecord). heading_of (record { serial = serial; ends = u.closes && last; piece = p }) (take p.blocks (drop (length u.records - left.blocks) u.records)) l) changes_are in
-    subst (λ (x : Summary). IsPartBytes g head serial bytes x) same (filled (subst (λ (x : Summary). IsSummary g head.seg head.block x) (sym same) ok))
+    let head_of : Bool → Heading = λ e. record { serial = serial; next_seg = p.next.seg; next_block = p.next.block; ends = e } in
+    let same : with_records (head_of ends) (take p.blocks (drop first u.records)) changes ≡ part_of_unit u left serial last p =
+    ap (λ (n : ℕ). with_records (head_of ends) (take p.blocks (drop n u.records)) changes) first_is
+    ∙ ap (λ (e : Bool). with_records (head_of e) (take p.blocks (drop (length u.records - left.blocks) u.records)) changes) ends_is
+    ∙ ap (λ (l : List TableRecord). with_records (head_of (u.closes && last)) (take p.blocks (drop (length u.records - left.blocks) u.records)) l) changes_are in
+    subst (λ (x : Summary). IsPartWhereItMay x bytes) same filled g head ok
 
 -- and behind its summary they have its blocks
 pub own_of : (left : Left) (u : Brought) (p : Piece) (first : ℕ) (bytes : List ℕ) → first ≡ length u.records - left.blocks → length (take p.blocks (drop (length u.records - left.blocks) u.records)) ≡ p.blocks

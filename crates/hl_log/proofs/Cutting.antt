@@ -8,10 +8,11 @@ use Rattle.hl_image.specs.Chain.{cut}
 use Rattle.hl_log.specs.declared.piece.Piece.{Piece}
 use Rattle.hl_log.specs.declared.piece.Left.{Left}
 use Rattle.hl_log.specs.Free.{AreClean}
-use Rattle.hl_log.specs.Cut.{Goes, Takes, LeavesBehind, AreCut, HasClean, addresses}
+use Rattle.hl_log.proofs.Cleans.{first_in_log, beside_first}
+use Rattle.hl_log.specs.Cut.{Goes, Takes, LeavesBehind, AreCut, HasClean, addresses, place_behind}
 
 -- one next part alone is there
-same_place : (g : Layout) (at : LogPlace) (n : ℕ) (clean : List ℕ) (a b : LogPlace) (x y : List ℕ) → Goes g at n clean a x → Goes g at n clean b y → (a ≡ b) × (x ≡ y)
+pub same_place : (g : Layout) (at : LogPlace) (n : ℕ) (clean : List ℕ) (a b : LogPlace) (x y : List ℕ) → Goes g at n clean a x → Goes g at n clean b y → (a ≡ b) × (x ≡ y)
 same_place g at n clean a b x y (inl u) (inl v) =
     let s : a.seg ≡ b.seg = u.1 ∙ sym v.1 in
     let t : a.block ≡ b.block = u.2 ∙ sym v.2 in
@@ -54,9 +55,8 @@ place_then g at n clean next more place cleans (inl near) =
 place_then g at n clean next more place cleans (inr far) =
     let cs = subst (AreClean g at.seg) far.1 cleans in
     let z = far.2 in
-    let lo = cs.0 in
-    let hi = cs.1 in
-    (record { low = lo; high = hi; room = omega (arith, place.room) }, cs.3)
+    let in_log = first_in_log g at.seg next.seg more cs in
+    (record { low = in_log.0; high = in_log.1; room = omega (arith, place.room) }, beside_first g at.seg next.seg more cs)
 
 -- what the parts so far have taken
 abbrev pub blocks_in : List Piece → ℕ
@@ -93,7 +93,7 @@ reached_first g head clean blocks tables = record {
 }
 
 -- the part in front of others
-cut_before : (g : Layout) (at : LogPlace) (more : List ℕ) (b t : ℕ) (p : Piece) (then : List ℕ) → Takes g at more b t p then → 0 < (b - p.blocks) + (t - p.tables)
+pub cut_before : (g : Layout) (at : LogPlace) (more : List ℕ) (b t : ℕ) (p : Piece) (then : List ℕ) → Takes g at more b t p then → 0 < (b - p.blocks) + (t - p.tables)
     → (ps : List Piece) (rest : List ℕ) → AreCut g p.next then (b - p.blocks) (t - p.tables) ps rest → AreCut g at more b t (p ∷ ps) rest
 cut_before g at more b t p then takes some [] rest none = absurd none
 cut_before g at more b t p then takes some (q ∷ ps) rest cut = (then, takes, some, cut)
@@ -152,6 +152,22 @@ addresses-append g [] p = append-nil (range_with_len (block_at g p.at + 1) p.blo
 addresses-append g (q ∷ ps) p =
     ap (λ (l : List ℕ). range_with_len (block_at g q.at + 1) q.blocks ++ l) (addresses-append g ps p)
     ∙ sym (append_assoc (range_with_len (block_at g q.at + 1) q.blocks) (addresses g ps) (range_with_len (block_at g p.at + 1) p.blocks))
+
+-- where the log goes on behind the last of them
+pub place_behind-append : (at : LogPlace) (ps : List Piece) (p : Piece) → place_behind at (ps ++ p ∷ []) ≡ p.next
+place_behind-append at [] p = refl
+place_behind-append at (q ∷ ps) p = place_behind-append q.next ps p
+
+-- they are at most one more than there are blocks and table records
+pub few_parts : (g : Layout) (at : LogPlace) (clean : List ℕ) (b t : ℕ) (ps : List Piece) (rest : List ℕ) → IsLogPlace g at → AreClean g at.seg clean → AreCut g at clean b t ps rest → length ps ≤ b + t + 1
+few_parts g at clean b t [] rest place cleans none = absurd none
+few_parts g at clean b t (p ∷ []) rest place cleans cut = omega arith
+few_parts g at clean b t (p ∷ q ∷ ps) rest place cleans cut =
+    let then = place_then g at p.blocks clean p.next cut.0 place cleans cut.1.goes in
+    let more = few_parts g p.next cut.0 (b - p.blocks) (t - p.tables) (q ∷ ps) rest then.0 then.1 cut.3 in
+    let left = cut.2 in
+    let some = takes_some g at clean b t p cut.0 place cut.1 (omega arith) in
+    omega (arith, cut.1.blocks_are, cut.1.tables_are)
 
 -- one turn of a cut
 module _ (g : Layout) (head : LogPlace) (clean : List ℕ) (blocks tables : ℕ) (left behind : Left) (p : Piece) (l : LeavesBehind g left clean p behind) (place : IsLogPlace g left.at)

@@ -1,3 +1,4 @@
+pub mod Cleans
 pub mod Steps
 pub mod Wraps
 pub mod Sites
@@ -10,3 +11,7 @@ pub mod Resting
 pub mod Records
 pub mod TwoPhases
 pub mod Tables
+pub mod Silence
+pub mod Freed
+pub mod Addresses
+pub mod Fewer

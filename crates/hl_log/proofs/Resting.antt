@@ -53,7 +53,7 @@ with_clean g p clean more parts s rest cleans behind = record {
 }
 
 -- the front of a walk
-walk_front : (g : Layout) (a : Image) (at : LogPlace) (serial : ℕ) (ps qs : List Summary) → Walk g a at serial (ps ++ qs) → Walk g a at serial ps
+pub walk_front : (g : Layout) (a : Image) (at : LogPlace) (serial : ℕ) (ps qs : List Summary) → Walk g a at serial (ps ++ qs) → Walk g a at serial ps
 walk_front g a at serial [] qs walk = tt
 walk_front g a at serial (p ∷ ps) qs walk = (walk.0, walk_front g a (next_of p) (serial + 1) ps qs walk.1)
 

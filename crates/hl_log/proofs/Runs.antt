@@ -3,9 +3,8 @@ use Rattle.std.proofs.Common.{◌≡◌, ℕ, zero, suc, ◌+◌, ◌-◌, ◌*�
 use Rattle.std.specs.List.{range_with_len}
 use Rattle.std.proofs.lemmas.List.{take_more, get_or-drop, length-take-le}
 use Rattle.std.proofs.lemmas.List.FromFn.{map-range_with_len_more}
-use Rattle.hl_media.specs.History as media
 use Rattle.hl_bytes.specs.Fields.{written}
-use Rattle.hl_bytes.specs.Buffers as bytes
+use Rattle.hl_bytes.specs.Buffers.{block_of, with_part}
 use Rattle.hl_bytes.proofs.Parts.{with_part_is, written-inside, written-below}
 use Rattle.hl_media.proofs.Images.{block_of_one, block_of-drop}
 use Rattle.hl_log.specs.Steps.{own_blocks}
@@ -29,32 +28,26 @@ map_range_same f h a (suc n) same =
     ap (λ (x : List ℕ). x ∷ map f (range_with_len (a + 1) n)) (same a (omega arith) (omega arith))
     ∙ ap (λ (l : List (List ℕ)). h a ∷ l) (map_range_same f h (a + 1) n (λ k le lt. same k (omega arith) (omega arith)))
 
--- the two words for a block are one
-same_block : (l : List ℕ) (k : ℕ) → media.block_of l k ≡ bytes.block_of l k
-unfolding media.block_of bytes.block_of
-same_block l k = refl
-
 module _ (old new part : List ℕ) (i n : ℕ) (size : length old ≡ 4096 * (1 + n)) (lt : i < n) (one : length part ≡ 4096) (is : new ≡ written old (4096 * (1 + i)) part) where
   fits : 4096 * (1 + i) + length part ≤ length old
   fits = omega arith
 
-  as_part : new ≡ bytes.with_part old (1 + i) part
+  as_part : new ≡ with_part old (1 + i) part
   as_part = is ∙ sym (with_part_is old part (1 + i) fits)
 
-  own : media.block_of new (1 + i) ≡ part
+  own : block_of new (1 + i) ≡ part
   own =
       let e : 1 + i + 0 ≡ 1 + i = omega arith in
-      same_block new (1 + i) ∙ ap (λ (l : List ℕ). bytes.block_of l (1 + i)) as_part ∙ ap (bytes.block_of (bytes.with_part old (1 + i) part)) (sym e)
-      ∙ written-inside old part (1 + i) 0 fits (omega arith) ∙ sym (same_block part 0) ∙ block_of_one part one
+      ap (λ (l : List ℕ). block_of l (1 + i)) as_part ∙ ap (block_of (with_part old (1 + i) part)) (sym e) ∙ written-inside old part (1 + i) 0 fits (omega arith) ∙ block_of_one part one
 
-  below : (k : ℕ) → k < 1 + i → media.block_of new k ≡ media.block_of old k
-  below k small = same_block new k ∙ ap (λ (l : List ℕ). bytes.block_of l k) as_part ∙ written-below old part (1 + i) k fits small ∙ sym (same_block old k)
+  below : (k : ℕ) → k < 1 + i → block_of new k ≡ block_of old k
+  below k small = ap (λ (l : List ℕ). block_of l k) as_part ∙ written-below old part (1 + i) k fits small
 
   -- one block more
   pub blocks_more : own_blocks new (i + 1) ≡ own_blocks old i ++ part ∷ []
   blocks_more =
-      map-range_with_len_more (media.block_of new) 1 i (1 + i) refl
-      ∙ ap (λ (l : List (List ℕ)). l ++ media.block_of new (1 + i) ∷ []) (map_range_same (media.block_of new) (media.block_of old) 1 i (λ k le small. below k small))
+      map-range_with_len_more (block_of new) 1 i (1 + i) refl
+      ∙ ap (λ (l : List (List ℕ)). l ++ block_of new (1 + i) ∷ []) (map_range_same (block_of new) (block_of old) 1 i (λ k le small. below k small))
       ∙ ap (λ (l : List ℕ). own_blocks old i ++ l ∷ []) own
 
 -- one item more of those from a place on
@@ -67,6 +60,6 @@ length_taken xs first n fits = length-take-le n (drop first xs) (omega (arith, l
 
 -- what stands behind a summary, where another is written over it
 pub own_same : (old new : List ℕ) (n : ℕ) → drop 4096 new ≡ drop 4096 old → own_blocks new n ≡ own_blocks old n
-own_same old new n same = map_range_same (media.block_of new) (media.block_of old) 1 n (λ k le lt.
+own_same old new n same = map_range_same (block_of new) (block_of old) 1 n (λ k le lt.
     let e : k ≡ suc (k - 1) = omega arith in
-    ap (media.block_of new) e ∙ sym (block_of-drop new (k - 1)) ∙ ap (λ (l : List ℕ). media.block_of l (k - 1)) same ∙ block_of-drop old (k - 1) ∙ ap (media.block_of old) (sym e))
+    ap (block_of new) e ∙ sym (block_of-drop new (k - 1)) ∙ ap (λ (l : List ℕ). block_of l (k - 1)) same ∙ block_of-drop old (k - 1) ∙ ap (block_of old) (sym e))

@@ -2,7 +2,8 @@
 use Rattle.std.proofs.Common.{◌≡◌, ◌⊎◌, inl, inr, ⊎_elim, ℕ, zero, suc, ◌+◌, ◌-◌, ◌*◌, ◌/◌, ◌<◌, ◌≤◌, Bool, true, false, List, [], ◌∷◌, ◌++◌, length, map, refl, sym, ◌∙◌, ap, subst, arith, length-append, append-nil}
 use Rattle.std.proofs.lemmas.Bool.{cases_lt}
 use Rattle.std.specs.List.{range_with_len}
-use Rattle.hl_media.specs.History.{Image, overwritten, block_of, PendingWrite, MachineState, MayLeave, HoldsAt, IsUntouched, begun, ended}
+use Rattle.hl_bytes.specs.Buffers.{block_of}
+use Rattle.hl_media.specs.History.{Image, overwritten, PendingWrite, MachineState, MayLeave, HoldsAt, IsUntouched, begun, ended}
 use Rattle.hl_media.specs.History.DeviceCall.{Write, Sync}
 use Rattle.hl_media.proofs.Images.{overwritten_in, overwritten_out, block_of_one}
 use Rattle.hl_addr.specs.Layout.{Layout}
@@ -19,6 +20,7 @@ use Rattle.hl_image.proofs.ChainLemmas.{apart, segment_in_log, next_place, end_o
 use Rattle.hl_log.specs.declared.position.Position.{Position}
 use Rattle.hl_log.specs.Free.{InOneOf, IsFree, AreClean}
 use Rattle.hl_log.specs.Cut.{Goes}
+use Rattle.hl_log.proofs.Cleans.{first_apart, beside_first, beside_other}
 use Rattle.hl_log.specs.Rest.{OnlyFrom, AtHead, IsAtRest, Has, Keeps, IsSame, Leaves}
 use Rattle.hl_log.specs.Steps.{settled, behind, own_blocks, blocks_behind, IsNext, HasPart, StandsBehind}
 
@@ -75,8 +77,8 @@ one_there image at bytes one =
 -- a clean segment has no block of this one
 pub in_one_apart : (g : Layout) (c : ℕ) (clean : List ℕ) (b : ℕ) → AreClean g c clean → InOneOf g clean b → g.k * c ≤ b → b < g.k * c + g.k → ⊥
 in_one_apart g c [] b cleans none lo hi = none
-in_one_apart g c (d ∷ clean) b cleans (inl here) lo hi = apart g d c b cleans.2 here.0 here.1 lo hi
-in_one_apart g c (d ∷ clean) b cleans (inr later) lo hi = in_one_apart g c clean b cleans.4 later lo hi
+in_one_apart g c (d ∷ clean) b cleans (inl here) lo hi = apart g d c b (first_apart g c d clean cleans) here.0 here.1 lo hi
+in_one_apart g c (d ∷ clean) b cleans (inr later) lo hi = in_one_apart g c clean b (beside_other g c d clean cleans) later lo hi
 
 -- the blocks behind a summary, in an image that holds the part
 pub blocks_there : (image : Image) (at : ℕ) (bytes : List ℕ) (n m : ℕ) → ((i : ℕ) → m ≤ i → i < m + n → image (at + i) ≡ block_of bytes i) → map image (range_with_len (at + m) n) ≡ map (block_of bytes) (range_with_len m n)
@@ -202,7 +204,7 @@ module _ (g : Layout) (p : Position) (clean : List ℕ) (parts : List Summary) (
       let lo : g.k * next.seg ≤ block_at g next = omega arith in
       let hi : block_at g next < g.k * next.seg + g.k = omega arith in (
         subst (λ (l : List ℕ). IsFree g p.head l (block_at g next)) (sym other.1) (inr (inl (lo, hi))),
-        λ e. apart g next.seg p.head.seg (block_at g next) cs.2 lo hi (omega arith) (omega (arith, rest.head.room)),
+        λ e. apart g next.seg p.head.seg (block_at g next) (first_apart g p.head.seg next.seg more cs) lo hi (omega arith) (omega (arith, rest.head.room)),
       )
 
   -- zeros at the next place
@@ -282,7 +284,7 @@ module _ (g : Layout) (p : Position) (clean : List ℕ) (parts : List Summary) (
         (λ same. inr (let e = same_segment same.1 same.2 in omega (arith, count)))
         (λ other. ⊎_elim (λ outside. outside)
         (λ inside. absurd (let z = other.2 in let a = inside.0 in let b = inside.1 in
-        apart g next.seg p.head.seg there (in_cleans next.seg more other.1).2 (omega arith) (omega (arith, rest.head.room)) (omega arith) (omega (arith, fit.within, count))))
+        apart g next.seg p.head.seg there (first_apart g p.head.seg next.seg more (in_cleans next.seg more other.1)) (omega arith) (omega (arith, rest.head.room)) (omega arith) (omega (arith, fit.within, count))))
         (side here (length bytes / 4096) there))
         is_next.goes
 
@@ -345,7 +347,7 @@ module _ (g : Layout) (p : Position) (clean : List ℕ) (parts : List Summary) (
     next_cleans : AreClean g next.seg more
     next_cleans = ⊎_elim
         (λ same. subst (λ (l : List ℕ). AreClean g next.seg l) (sym same.3) (subst (λ (c : ℕ). AreClean g c clean) (sym same.1) rest.cleans))
-        (λ other. (in_cleans next.seg more other.1).3)
+        (λ other. beside_first g p.head.seg next.seg more (in_cleans next.seg more other.1))
         is_next.goes
 
     end_is : end_of p.start (parts ++ part ∷ []) ≡ next

@@ -16,11 +16,11 @@ use Rattle.hl_image.proofs.ChainLemmas.{cut_open, cut_closed, cut_single, end_of
 use Rattle.hl_log.specs.declared.position.Position.{Position}
 use Rattle.hl_log.specs.declared.piece.Piece.{Piece}
 use Rattle.hl_log.specs.Free.{IsFree}
-use Rattle.hl_log.specs.Cut.{Goes, Takes, summary_of, summaries}
+use Rattle.hl_log.specs.Cut.{Goes, Takes, AreCut, HasClean, summary_of, summaries}
 use Rattle.hl_log.specs.Rest.{IsAtRest, Has, Keeps, IsSame}
 use Rattle.hl_log.specs.Steps.{settled, blocks_behind, KeepsChain, HeadCleared, AddsPiece, HasAddedPiece}
 use Rattle.hl_log.specs.Units.{Brought, Stands, with_unit, HasUnit, Numbered, WritesUnit, IsClosed, HasWritten, moved}
-use Rattle.hl_log.proofs.Cutting.{Reached, blocks_in, tables_in, blocks_in-append, reached_last, takes_some}
+use Rattle.hl_log.proofs.Cutting.{Reached, blocks_in, tables_in, blocks_in-append, cut_before, reached_last, takes_some}
 use Rattle.hl_log.proofs.Unfolding.{opens, blocks_at, next_summary, opens-append, summaries-last, cut_opens, blocks_at-append, blocks_same, addresses_are}
 use Rattle.hl_log.proofs.Steps.{covered, rest_leaves}
 use Rattle.hl_log.proofs.Wraps.{runs_map}
@@ -44,10 +44,10 @@ pub record Mid (g : Layout) (p : Position) (clean : List ℕ) (u : Brought) (q :
   pub end_is : end_of p.head (opens p.serial u.records u.changes done) ≡ q.head
   pub blocks_are : map s.content (blocks_at g p.head (opens p.serial u.records u.changes done)) ≡ take (blocks_in done) u.contents
   pub serial_is : q.serial ≡ p.serial + length done
-  pub numbered : Numbered q (b + t)
+  pub numbered : Numbered g q more b t
 
 abbrev pub IsMidway : Layout → Position → List ℕ → Brought → Position → List ℕ → ℕ → ℕ → List Piece → MachineState → MachineState → Type 0
-IsMidway g p clean u q more b t done first s = (parts : List Summary) → IsAtRest g p clean parts first → cut parts ≡ parts → Numbered p (length u.records + length u.changes)
+IsMidway g p clean u q more b t done first s = (parts : List Summary) → IsAtRest g p clean parts first → cut parts ≡ parts → Numbered g p clean (length u.records) (length u.changes)
     → Mid g p clean u q more b t done parts first s
 
 -- where the chain has closed parts and open ones behind them
@@ -193,13 +193,21 @@ module _ (g : Layout) (p : Position) (clean : List ℕ) (u : Brought) where
       unit_goes_on before middle now run ends adds = goes_on before middle now (WritesUnit g p clean u) (AddsPiece g q piece.next part own) (IsMidway g p clean u q more b t done) run ends adds step
 
       -- after one more part
-      module _ (n : ℕ) (n_is : serial + 1 < 2 ^ 64 → n ≡ serial + 1) (place : IsLogPlace g head) where
+      module _ (n : ℕ) (n_is : serial + 1 < 2 ^ 64 → n ≡ serial + 1) (place : IsLogPlace g head) (enough : HasClean g p.head clean (length u.records) (length u.changes)) where
+        -- the serial behind the next part has room
+        next_fits : Numbered g q more b t → serial + 1 < 2 ^ 64
+        next_fits numbered = (let left = reached.left enough.0 enough.1 enough.2 in by_left left.0 left.2)
+          where
+            by_left : (qs : List Piece) → AreCut g head more b t qs enough.1 → serial + 1 < 2 ^ 64
+            by_left [] none = absurd none
+            by_left (x ∷ qs) cut = (let fits : serial + length (x ∷ qs) < 2 ^ 64 = numbered (x ∷ qs) enough.1 cut in omega arith)
+
         after : (first middle s : MachineState) (parts : List Summary) → IsAtRest g p clean parts first → Mid g p clean u q more b t done parts first middle → HasAddedPiece g q piece.next part own middle s
             → IsAtRest g (moved p piece.next n) then ((parts ++ open_parts) ++ part ∷ []) s × IsSame g p clean first s × (map s.content (blocks_at g p.head (open_parts ++ part ∷ [])) ≡ take (blocks_in done + piece.blocks) u.contents)
             × ((k : ℕ) → IsFree g piece.next then k → IsFree g p.head clean k)
         after first middle s parts at_rest m added =
             let a = added more then (parts ++ open_parts) m.at_rest goes in
-            let n_same : serial + 1 ≡ n = sym (n_is (omega (arith, m.numbered))) in
+            let n_same : serial + 1 ≡ n = sym (n_is (next_fits m.numbered)) in
             let same : IsSame g p clean first s = record {
               content = λ k nf. a.same.content k (λ f. nf (m.was_free k f)) ∙ m.same.content k nf;
               pending = λ k un. a.same.pending k (m.same.pending k un);
@@ -218,7 +226,7 @@ module _ (g : Layout) (p : Position) (clean : List ℕ) (u : Brought) where
             (λ first m s midway has parts at_rest closed numbered.
             let mid = midway parts at_rest closed numbered in
             let x = after first m s parts at_rest mid has in
-            let n_same : n ≡ serial + 1 = n_is (omega (arith, mid.numbered)) in
+            let n_same : n ≡ serial + 1 = n_is (next_fits mid.numbered) in
             let open_is : (u.closes && last) ≡ false = ap (λ (l : Bool). u.closes && l) not_last ∙ and_false u.closes in
             let parts_are : open_parts ++ part ∷ [] ≡ opens p.serial u.records u.changes (done ++ piece ∷ []) =
             ap (λ (y : Summary). open_parts ++ y ∷ []) (part_is false open_is mid.serial_is) ∙ sym (opens-append p.serial u.records u.changes done piece) in
@@ -230,7 +238,10 @@ module _ (g : Layout) (p : Position) (clean : List ℕ) (u : Brought) where
               end_is = ap (end_of p.head) (sym parts_are) ∙ end_of-append p.head open_parts (part ∷ []);
               blocks_are = ap (λ (l : List Summary). map s.content (blocks_at g p.head l)) (sym parts_are) ∙ x.2 ∙ ap (λ (k : ℕ). take k u.contents) (sym (blocks_sum done piece));
               serial_is = omega (arith, mid.serial_is, length-append done (piece ∷ []));
-              numbered = omega (arith, mid.numbered, takes.blocks_are, takes.tables_are);
+              numbered = λ ps rest cut.
+                  let left : AreCut g piece.next then (b - piece.blocks) (t - piece.tables) ps rest = subst (λ (k : ℕ). AreCut g piece.next then k (t - piece.tables) ps rest) b_is (subst (λ (k : ℕ). AreCut g piece.next then b2 k ps rest) t_is cut) in
+                  let fits : serial + length (piece ∷ ps) < 2 ^ 64 = mid.numbered (piece ∷ ps) rest (cut_before g head more b t piece then takes some ps rest left) in
+                  omega arith;
             })
 
         pub unit_ends : (before middle now : Option History) (run : Runs middle now (AddsPiece g q piece.next part own)) → Ends before middle (IsMidway g p clean u q more b t done) → Ends middle now (HasAddedPiece g q piece.next part own)

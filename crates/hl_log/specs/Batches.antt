@@ -1,9 +1,11 @@
 -- A batch as what it brings.
-use Rattle.std.specs.Prelude.{◌≡◌, ℕ, ◌+◌, ◌-◌, ◌<◌, ◌≤◌, ◌^◌, Bool, ◌&&◌, List, length, take, drop}
+use Rattle.std.specs.Prelude.{◌≡◌, ℕ, ◌+◌, ◌-◌, ◌<◌, ◌≤◌, ◌^◌, min, Bool, ◌&&◌, List, length, take, drop}
 use Rattle.hl_addr.specs.Layout.{Layout}
 use Rattle.hl_summary.specs.Ranges.{IsNextPlace}
+use Rattle.hl_summary.specs.Parts.{HasRanges}
 use Rattle.hl_summary.specs.declared.parts.Summary.{Summary}
 use Rattle.hl_image.specs.declared.place.LogPlace.{LogPlace}
+use Rattle.hl_image.specs.Parts.{IsPartBytes}
 use Rattle.hl_image.specs.Places.{IsLogPlace}
 use Rattle.hl_log.specs.declared.batch.Batch.{Batch}
 use Rattle.hl_log.specs.declared.piece.Piece.{Piece}
@@ -14,6 +16,14 @@ use Rattle.hl_log.specs.Units.{Brought}
 
 abbrev pub brought_of : Batch → Brought
 brought_of b = record { closes = b.closes; records = records_of b.load; contents = contents_of b.load; changes = b.changes.now }
+
+-- the blocks of the longest part: a summary with all that it may describe, or a whole segment
+abbrev pub longest_part : Layout → ℕ
+longest_part g = min g.k 241
+
+-- the bytes are a part of this summary for each place where its fields are in their ranges
+abbrev pub IsPartWhereItMay : Summary → List ℕ → Type 0
+IsPartWhereItMay s bytes = (g : Layout) (at : LogPlace) → HasRanges g at.seg at.block s → IsPartBytes g at s.serial bytes s
 
 -- its records are of the site, and each has its block
 pub record IsBatch (g : Layout) (u : Brought) : Type 0 where

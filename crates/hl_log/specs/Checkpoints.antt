@@ -1,19 +1,20 @@
 -- A checkpoint: the old record with its chain, or the new one with its tables, at every moment.
-use Rattle.std.specs.Prelude.{◌≡◌, ◌⊎◌, ℕ, ◌+◌, ◌-◌, ◌<◌, ◌≤◌, ◌^◌, min, List, [], length, map, Option, Some, false}
+use Rattle.std.specs.Prelude.{◌≡◌, ◌⊎◌, ℕ, ◌+◌, ◌-◌, ◌<◌, ◌≤◌, ◌^◌, min, List, [], length, map, Contains, Option, Some, false}
 use Rattle.hl_media.specs.History.{Image, MachineState, IsUntouched}
 use Rattle.hl_addr.specs.Layout.{Layout}
 use Rattle.hl_super.specs.declared.record.Record.{Record}
 use Rattle.hl_summary.specs.declared.parts.Summary.{Summary}
 use Rattle.hl_image.specs.declared.place.LogPlace.{LogPlace}
-use Rattle.hl_image.specs.Chain.{IsChain, cut, IsCutChain}
+use Rattle.hl_image.specs.Chain.{Walk, IsChain, cut, IsCutChain}
 use Rattle.hl_image.specs.Newest.{IsNewest, home_of, number_of, start_of}
 use Rattle.hl_log.specs.declared.position.Position.{Position}
 use Rattle.hl_log.specs.declared.piece.Piece.{Piece}
 use Rattle.hl_log.specs.declared.checkpoint.Draft.{Draft}
 use Rattle.hl_log.specs.Free.{IsFree}
-use Rattle.hl_log.specs.Cut.{AreCut, addresses}
+use Rattle.hl_log.specs.Cut.{AreCut, addresses, place_behind, summaries}
+use Rattle.hl_log.specs.Loads.{table_records}
 use Rattle.hl_log.specs.Rest.{IsAtRest, Has, StopLeaves}
-use Rattle.hl_log.specs.Units.{Numbered}
+use Rattle.hl_log.specs.Units.{Numbered, GoesOn}
 
 -- behind a new record the chain starts at the head
 abbrev pub restarted : Position → Position
@@ -81,10 +82,20 @@ pub record IsNextRecord (d : Given) (new : Record) : Type 0 where
   pub format : new.format ≡ d.format
   pub volumes : new.volumes ≡ d.volumes
 
--- the record names the addresses of the parts that the tables are cut into, and these table blocks stand there
-pub record HasTables (g : Layout) (head : LogPlace) (clean rest : List ℕ) (tables : List (List ℕ)) (new : Record) (pieces : List Piece) (image : Image) : Type 0 where
-  pub are_cut : AreCut g head clean (length tables) 0 pieces rest
+-- what is free from there on was free before, and is no block of the tables that the record names
+pub record FreesLess (g : Layout) (p : Position) (clean : List ℕ) (q : Position) (rest : List ℕ) (new : Record) : Type 0 where
+  pub was_free : (k : ℕ) → IsFree g q.head rest k → IsFree g p.head clean k
+  pub no_table : (k : ℕ) → Contains new.tables k → IsFree g q.head rest k → ⊥
+
+-- The record names the addresses of the parts that the tables are cut into, and its chain starts where the last of them
+-- goes on, with the serial behind theirs. The parts and these table blocks stand there.
+pub record HasTables (g : Layout) (p : Position) (clean rest : List ℕ) (tables : List (List ℕ)) (new : Record) (pieces : List Piece) (image : Image) : Type 0 where
+  pub are_cut : AreCut g p.head clean (length tables) 0 pieces rest
   pub named : new.tables ≡ addresses g pieces
+  pub start_is : start_of new ≡ place_behind p.head pieces
+  pub serial_is : new.serial ≡ p.serial + length pieces
+  pub frees : FreesLess g p clean (restarted_at new) rest new
+  pub walk : Walk g image p.head p.serial (summaries false p.serial (table_records (length tables)) [] pieces)
   pub blocks : map image new.tables ≡ tables
 
 -- the new record with its table blocks, and an empty chain
@@ -92,7 +103,18 @@ pub record HasNew (g : Layout) (p : Position) (clean : List ℕ) (d : Given) (ta
   pub next : IsNextRecord d new
   pub newest : IsNewest g image (Some new)
   pub chain : IsCutChain g image (start_of new) new.serial []
-  pub tables_stand : (pieces : List Piece) × (rest : List ℕ) × HasTables g p.head clean rest tables new pieces image
+  pub tables_stand : (pieces : List Piece) × (rest : List ℕ) × HasTables g p clean rest tables new pieces image
+
+-- The record of a checkpoint of so many table blocks, whose parts leave these clean segments: it has the next number and
+-- what was given, names the addresses of the blocks, and its chain starts where the log goes on behind the parts.
+pub record IsRecordBehind (g : Layout) (p : Position) (clean rest : List ℕ) (d : Given) (count : ℕ) (new : Record) : Type 0 where
+  pub number_is : new.number ≡ min (d.number + 1) (2 ^ 64 - 1)
+  pub tseg_serial : new.tseg_serial ≡ d.tseg_serial
+  pub format : new.format ≡ d.format
+  pub volumes : new.volumes ≡ d.volumes
+  pub goes_on : GoesOn g p clean count 0 (start_of new) new.serial rest
+  pub named : new.tables ≡ addresses g goes_on.pieces
+  pub frees : FreesLess g p clean (restarted_at new) rest new
 
 -- the old record with its cut chain, or the new one
 abbrev pub HasCheckpoint : Layout → Position → List ℕ → Option Record → Given → List (List ℕ) → List Summary → Image → Type 0
@@ -109,7 +131,7 @@ pub record IsReady (g : Layout) (p : Position) (clean : List ℕ) (d : Given) (c
   pub closed : cut parts ≡ parts
   pub newest : IsNewest g first.content old
   pub number_is : number_of old ≡ d.number
-  pub numbered : Numbered p count
+  pub numbered : Numbered g p clean count 0
   pub next_number : d.number + 1 < 2 ^ 64
 
 -- at each moment of a checkpoint
@@ -120,4 +142,4 @@ Checkpoints g p clean d tables first s = (parts : List Summary) (old : Option Re
 -- after a checkpoint, with this record
 abbrev pub HasCheckpointed : Layout → Position → List ℕ → Given → List (List ℕ) → Position → List ℕ → Record → MachineState → MachineState → Type 0
 HasCheckpointed g p clean d tables q rest new first s = (parts : List Summary) (old : Option Record) → IsReady g p clean d (length tables) parts old first
-    → HasNew g p clean d tables new s.content × IsAtRest g q rest [] s × KeepsRest g p clean first s.content
+    → HasNew g p clean d tables new s.content × IsAtRest g q rest [] s × KeepsRest g p clean first s.content × ((pieces : List Piece) × HasTables g p clean rest tables new pieces s.content)

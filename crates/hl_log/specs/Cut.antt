@@ -1,6 +1,7 @@
 -- How a unit is cut into parts.
-use Rattle.std.specs.Prelude.{◌≡◌, ◌⊎◌, ℕ, ◌+◌, ◌-◌, ◌<◌, ◌≤◌, min, Bool, false, List, [], ◌∷◌, ◌++◌, length, take, drop}
+use Rattle.std.specs.Prelude.{◌≡◌, ◌⊎◌, ℕ, ◌+◌, ◌-◌, ◌<◌, ◌≤◌, min, Bool, false, Option, Some, None, List, [], ◌∷◌, ◌++◌, length, take, drop}
 use Rattle.std.specs.List.{range_with_len}
+use Rattle.std.specs.Global.{Vec}
 use Rattle.hl_addr.specs.Layout.{Layout}
 use Rattle.hl_bytes.specs.declared.records.BlockRecord.{BlockRecord}
 use Rattle.hl_bytes.specs.declared.records.TableRecord.{TableRecord}
@@ -47,6 +48,11 @@ abbrev pub addresses : Layout → List Piece → List ℕ
 addresses g [] = []
 addresses g (p ∷ ps) = range_with_len (block_at g p.at + 1) p.blocks ++ addresses g ps
 
+-- where the log goes on behind these parts
+abbrev pub place_behind : LogPlace → List Piece → LogPlace
+place_behind at [] = at
+place_behind at (p ∷ ps) = place_behind p.next ps
+
 -- there are clean segments enough for so many blocks and table records
 abbrev pub HasClean : Layout → LogPlace → List ℕ → ℕ → ℕ → Type 0
 HasClean g head clean blocks tables = (pieces : List Piece) × (rest : List ℕ) × AreCut g head clean blocks tables pieces rest
@@ -54,6 +60,11 @@ HasClean g head clean blocks tables = (pieces : List Piece) × (rest : List ℕ)
 -- these are the addresses of the blocks of a unit of so many blocks and table records
 abbrev pub IsPlan : Layout → LogPlace → List ℕ → ℕ → ℕ → List ℕ → Type 0
 IsPlan g head clean blocks tables plan = (pieces : List Piece) × (rest : List ℕ) × AreCut g head clean blocks tables pieces rest × (plan ≡ addresses g pieces)
+
+-- the addresses of such a unit, and none exactly where there are too few clean segments
+abbrev pub Plans : Layout → LogPlace → List ℕ → ℕ → ℕ → Option (Vec ℕ) → Type 0
+Plans g head clean blocks tables None = ¬ HasClean g head clean blocks tables
+Plans g head clean blocks tables (Some plan) = IsPlan g head clean blocks tables plan.items
 
 -- what the part says of itself, where these records are left
 abbrev pub summary_of : ℕ → Bool → List BlockRecord → List TableRecord → Piece → Summary

@@ -1,5 +1,5 @@
 -- The blocks that the log may write next.
-use Rattle.std.specs.Prelude.{◌≡◌, ◌⊎◌, ℕ, ◌+◌, ◌*◌, ◌<◌, ◌≤◌, List, [], ◌∷◌}
+use Rattle.std.specs.Prelude.{◌⊎◌, ℕ, ◌+◌, ◌*◌, ◌<◌, ◌≤◌, List, [], ◌∷◌, Contains}
 use Rattle.hl_addr.specs.Layout.{Layout}
 use Rattle.hl_image.specs.declared.place.LogPlace.{LogPlace}
 use Rattle.hl_image.specs.Places.{block_at}
@@ -13,7 +13,13 @@ InOneOf g (c ∷ clean) b = ((g.k * c ≤ b) × (b < g.k * c + g.k)) ⊎ InOneOf
 abbrev pub IsFree : Layout → LogPlace → List ℕ → ℕ → Type 0
 IsFree g head clean b = ((block_at g head ≤ b) × (b < g.k * head.seg + g.k)) ⊎ InOneOf g clean b
 
+-- each number stands once
+abbrev pub Once : List ℕ → Type 0
+Once [] = Unit {0}
+Once (x ∷ xs) = (Contains xs x → ⊥) × Once xs
+
 -- segments of the log, each once, and none of them this one
-abbrev pub AreClean : Layout → ℕ → List ℕ → Type 0
-AreClean g other [] = Unit {0}
-AreClean g other (c ∷ clean) = (1 ≤ c) × (c ≤ g.log) × (c ≡ other → ⊥) × AreClean g c clean × AreClean g other clean
+pub record AreClean (g : Layout) (other : ℕ) (clean : List ℕ) : Type 0 where
+  pub in_log : (c : ℕ) → Contains clean c → (1 ≤ c) × (c ≤ g.log)
+  pub once : Once clean
+  pub apart : Contains clean other → ⊥

@@ -1,7 +1,6 @@
 pub mod Free
 pub mod Cut
 pub mod Loads
-pub mod Headings
 pub mod Rest
 pub mod Steps
 pub mod Units

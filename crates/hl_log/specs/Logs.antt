@@ -2,7 +2,7 @@
 use Rattle.std.specs.Prelude.{◌≡◌, ℕ, ◌+◌, ◌≤◌, true, List, length, drop, map, refl, Bool, Option}
 use Rattle.std.specs.Coded.{Coded, code_by, coded×, coded_ℕ, coded_bool, coded_list}
 use Rattle.hl_media.specs.History.{History, MachineState}
-use Rattle.hl_media.specs.Moments.{Ends}
+use Rattle.hl_media.specs.Moments.{Now, Ends}
 use Rattle.hl_media.specs.Causes.{Rose}
 use Rattle.hl_addr.specs.Layout.{Layout}
 use Rattle.hl_super.specs.declared.record.Record.{Record}
@@ -16,9 +16,9 @@ use Rattle.hl_log.specs.declared.unit.UnitAnswer.{UnitAnswer}
 use Rattle.hl_log.specs.declared.unit.UnitAnswer.TheVariants as answer
 use Rattle.hl_log.specs.Free.{IsFree, AreClean}
 use Rattle.hl_log.specs.Cut.{HasClean}
-use Rattle.hl_log.specs.Rest.{IsAtRest, OnlyFrom}
-use Rattle.hl_log.specs.Units.{Brought, HasWritten, moved}
-use Rattle.hl_log.specs.Checkpoints.{Given, HasCheckpointed, restarted_at}
+use Rattle.hl_log.specs.Rest.{IsAtRest, OnlyFrom, IsSynced}
+use Rattle.hl_log.specs.Units.{Brought, HasWritten, GoesOn, moved}
+use Rattle.hl_log.specs.Checkpoints.{Given, HasCheckpointed, IsRecordBehind, restarted_at}
 use Rattle.hl_log.specs.declared.unit.Unit.{Unit as LogUnit}
 
 -- the machine, the site, the newest record, and where the log stands
@@ -85,19 +85,40 @@ pub record Failed {M : Type 0} (faults write_faults : M → ℕ) (before now : L
   pub at : now.at ≡ before.at
   pub rec : now.rec ≡ before.rec
 
+-- no device call failed, and every write is synced
+pub record Succeeded {M : Type 0} (history : M → Option History) (faults write_faults : M → ℕ) (before now : LogValue M) : Type 0 where
+  pub faults_same : faults now.machine ≡ faults before.machine
+  pub write_faults_same : write_faults now.machine ≡ write_faults before.machine
+  pub synced : Now (history now.machine) IsSynced
+
+-- The unit was written, with so many of the clean segments.
+pub record UnitIsWritten {M : Type 0} (history : M → Option History) (faults write_faults : M → ℕ) (clean : List ℕ) (u : Brought) (before now : LogValue M) (used : ℕ) : Type 0 where
+  pub within : used ≤ length clean
+  pub succeeded : Succeeded history faults write_faults before now
+  pub rec : now.rec ≡ before.rec
+  pub at : now.at ≡ moved before.at now.at.head now.at.serial
+  pub goes_on : GoesOn before.geometry before.at clean (length u.records) (length u.changes) now.at.head now.at.serial (drop used clean)
+  pub written : Ends (history before.machine) (history now.machine) (HasWritten before.geometry before.at clean u now.at (drop used clean))
+
+-- The checkpoint was written, with so many of the clean segments. Behind it the log starts at its new record.
+pub record CheckpointIsWritten {M : Type 0} (history : M → Option History) (faults write_faults : M → ℕ) (clean : List ℕ) (d : Given) (tables : List (List ℕ)) (before now : LogValue M) (used : ℕ) : Type 0 where
+  pub within : used ≤ length clean
+  pub succeeded : Succeeded history faults write_faults before now
+  pub at : now.at ≡ restarted_at now.rec
+  pub rec : IsRecordBehind before.geometry before.at clean (drop used clean) d (length tables) now.rec
+  pub written : Ends (history before.machine) (history now.machine) (HasCheckpointed before.geometry before.at clean d tables now.at (drop used clean) now.rec)
+
 -- How the writing of a unit ends: it is full exactly where there are too few clean segments.
 abbrev pub UnitEnds : {M : Type 0} → (M → Option History) → (M → ℕ) → (M → ℕ) → List ℕ → Brought → LogValue M → LogValue M → UnitAnswer → Type 0
-UnitEnds history faults write_faults clean u before now (answer.Written used) =
-    Enough before clean u × (used ≤ length clean) × (now.rec ≡ before.rec) × (now.at ≡ moved before.at now.at.head now.at.serial) × Ends (history before.machine) (history now.machine) (HasWritten before.geometry before.at clean u now.at (drop used clean))
+UnitEnds history faults write_faults clean u before now (answer.Written used) = Enough before clean u × UnitIsWritten history faults write_faults clean u before now used
 UnitEnds history faults write_faults clean u before now answer.LogFull = (¬ Enough before clean u) × (now ≡ before)
 UnitEnds history faults write_faults clean u before now answer.DiskFault = Enough before clean u × Failed faults write_faults before now
 UnitEnds history faults write_faults clean u before now answer.Memory = ⊥
 
--- How a checkpoint ends. Behind it the log starts at its new record.
+-- How a checkpoint ends: it is full exactly where there are too few clean segments, and where memory is wanting nothing
+-- was written.
 abbrev pub CheckpointEnds : {M : Type 0} → (M → Option History) → (M → ℕ) → (M → ℕ) → List ℕ → Given → List (List ℕ) → LogValue M → LogValue M → UnitAnswer → Type 0
-CheckpointEnds history faults write_faults clean d tables before now (answer.Written used) =
-    HasClean before.geometry before.at.head clean (length tables) 0 × (used ≤ length clean) × (now.at ≡ restarted_at now.rec)
-    × Ends (history before.machine) (history now.machine) (HasCheckpointed before.geometry before.at clean d tables now.at (drop used clean) now.rec)
+CheckpointEnds history faults write_faults clean d tables before now (answer.Written used) = HasClean before.geometry before.at.head clean (length tables) 0 × CheckpointIsWritten history faults write_faults clean d tables before now used
 CheckpointEnds history faults write_faults clean d tables before now answer.LogFull = (¬ HasClean before.geometry before.at.head clean (length tables) 0) × (now ≡ before)
 CheckpointEnds history faults write_faults clean d tables before now answer.DiskFault = HasClean before.geometry before.at.head clean (length tables) 0 × Failed faults write_faults before now
 CheckpointEnds history faults write_faults clean d tables before now answer.Memory = now ≡ before

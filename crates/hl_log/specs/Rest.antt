@@ -59,3 +59,11 @@ Leaves g p clean Q first s = StopLeaves g p (λ image. Q image × Keeps g p clea
 -- the log stays at rest
 abbrev pub Stays : Layout → Position → MachineState → MachineState → Type 0
 Stays g p first s = (clean : List ℕ) (parts : List Summary) → IsAtRest g p clean parts first → IsAtRest g p clean parts s
+
+-- nothing is said
+abbrev pub SaysNothing : MachineState → MachineState → Type 0
+SaysNothing first s = s.said ≡ first.said
+
+-- every write is synced
+abbrev pub IsSynced : MachineState → Type 0
+IsSynced s = s.pending ≡ []

@@ -1,5 +1,5 @@
 -- A unit: whole or absent at every moment.
-use Rattle.std.specs.Prelude.{◌≡◌, ◌⊎◌, ℕ, ◌+◌, ◌<◌, ◌^◌, Bool, true, false, List, [], ◌++◌, length, map}
+use Rattle.std.specs.Prelude.{◌≡◌, ◌⊎◌, ℕ, ◌+◌, ◌-◌, ◌<◌, ◌^◌, min, Bool, true, false, List, [], ◌++◌, length, map}
 use Rattle.hl_media.specs.History.{Image, MachineState}
 use Rattle.hl_addr.specs.Layout.{Layout}
 use Rattle.hl_bytes.specs.declared.records.BlockRecord.{BlockRecord}
@@ -9,7 +9,7 @@ use Rattle.hl_image.specs.declared.place.LogPlace.{LogPlace}
 use Rattle.hl_image.specs.Chain.{cut, IsCutChain}
 use Rattle.hl_log.specs.declared.position.Position.{Position}
 use Rattle.hl_log.specs.declared.piece.Piece.{Piece}
-use Rattle.hl_log.specs.Cut.{AreCut, addresses, summaries}
+use Rattle.hl_log.specs.Cut.{AreCut, addresses, place_behind, summaries}
 use Rattle.hl_log.specs.Rest.{IsAtRest, IsSame, Leaves}
 
 -- what a unit brings: which blocks, what they hold, and changes of the tables; and whether its last part ends it
@@ -37,13 +37,13 @@ abbrev pub HasUnit : Layout → Position → List ℕ → Brought → List Summa
 HasUnit g p clean u parts image = IsCutChain g image p.start p.first parts
     ⊎ ((u.closes ≡ true) × ((pieces : List Piece) × (rest : List ℕ) × Stands g p clean rest u pieces image × IsCutChain g image p.start p.first (with_unit p u parts pieces)))
 
--- the serials of the unit's parts have room in 64 bits
-abbrev pub Numbered : Position → ℕ → Type 0
-Numbered p n = p.serial + (n + 1) < 2 ^ 64
+-- the parts that so many blocks and table records are cut into have serials of 64 bits, and so has the next one
+abbrev pub Numbered : Layout → Position → List ℕ → ℕ → ℕ → Type 0
+Numbered g p clean blocks tables = (pieces : List Piece) (rest : List ℕ) → AreCut g p.head clean blocks tables pieces rest → p.serial + length pieces < 2 ^ 64
 
 -- at each moment of writing a unit
 abbrev pub WritesUnit : Layout → Position → List ℕ → Brought → MachineState → MachineState → Type 0
-WritesUnit g p clean u first s = (parts : List Summary) → IsAtRest g p clean parts first → cut parts ≡ parts → Numbered p (length u.records + length u.changes)
+WritesUnit g p clean u first s = (parts : List Summary) → IsAtRest g p clean parts first → cut parts ≡ parts → Numbered g p clean (length u.records) (length u.changes)
     → Leaves g p clean (HasUnit g p clean u parts) first s
 
 -- a unit's last part ends it, or none does
@@ -60,5 +60,13 @@ pub record UnitStands (g : Layout) (p : Position) (clean : List ℕ) (u : Brough
 
 -- after the unit was written
 abbrev pub HasWritten : Layout → Position → List ℕ → Brought → Position → List ℕ → MachineState → MachineState → Type 0
-HasWritten g p clean u q rest first s = (parts : List Summary) → IsAtRest g p clean parts first → cut parts ≡ parts → Numbered p (length u.records + length u.changes)
+HasWritten g p clean u q rest first s = (parts : List Summary) → IsAtRest g p clean parts first → cut parts ≡ parts → Numbered g p clean (length u.records) (length u.changes)
     → (pieces : List Piece) × UnitStands g p clean u q rest parts pieces first s
+
+-- So many blocks and table records are cut into parts that leave these clean segments. Where the last of them goes on
+-- the log does, and each has taken a serial.
+pub record GoesOn (g : Layout) (p : Position) (clean : List ℕ) (blocks tables : ℕ) (head : LogPlace) (serial : ℕ) (rest : List ℕ) : Type 0 where
+  pub pieces : List Piece
+  pub are_cut : AreCut g p.head clean blocks tables pieces rest
+  pub head_is : head ≡ place_behind p.head pieces
+  pub serial_is : serial ≡ min (p.serial + length pieces) (2 ^ 64 - 1)

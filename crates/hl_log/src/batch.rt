@@ -1,20 +1,18 @@
 //! Writing the parts of a unit, one after the other.
 
 ghost use Rattle.std.specs.Prelude.{◌≡◌, ◌≤◌, ◌<◌, ◌+◌, ◌*◌, ◌^◌, ◌↔◌, ◌&&◌, length, take, drop, OnOk, IfOk, IsTrue, false};
-ghost use Rattle.std.specs.List.{AllByRecursion};
-ghost use Rattle.hl_media.specs.Moments.{Runs, Ends};
+ghost use Rattle.hl_media.specs.Moments.{Runs, Ends, Now};
 ghost use Rattle.hl_media.specs.Causes.{HasCause};
-ghost use Rattle.hl_addr.specs.Layout.{IsWithinLimits};
-ghost use Rattle.hl_bytes.specs.Records.{IsTableRecord};
 ghost use Rattle.hl_image.specs.Places.{log_end, IsLogPlace};
-ghost use Rattle.hl_log.specs.Batches.{CanStand, IsBatch, blocks_of_part, brought_of, part_of_unit};
+ghost use Rattle.hl_log.specs.Batches.{CanStand, IsBatch, blocks_of_part, brought_of, longest_part, part_of_unit};
 ghost use Rattle.hl_log.specs.Cut.{HasClean};
 ghost use Rattle.hl_log.specs.Free.{AreClean};
+ghost use Rattle.hl_log.specs.Rest.{IsSynced, SaysNothing};
 ghost use Rattle.hl_log.specs.Steps.{AddsPiece, HasAddedPiece};
-ghost use Rattle.hl_log.specs.Units.{HasWritten, WritesUnit, moved};
+ghost use Rattle.hl_log.specs.Units.{GoesOn, HasWritten, WritesUnit, moved};
 
 use crate::load::Load;
-use crate::part::{Heading, fill};
+use crate::part::fill;
 use crate::piece::{Left, Piece, is_done, next_piece};
 use crate::position::Position;
 use crate::writing::{settle, write_part};
@@ -22,9 +20,7 @@ use hl_addr::Geometry;
 use hl_bytes::{BLOCK, TableRecord};
 use hl_image::LogPlace;
 use hl_media::{Failed, Machine};
-
-/// The blocks of the longest part.
-pub(crate) const PART_MAX: u32 = 241;
+use hl_summary::Heading;
 
 /// What a unit or a checkpoint is to write.
 #[derive(Clone, Copy)]
@@ -33,44 +29,6 @@ pub struct Batch<'a> {
     pub changes: &'a [TableRecord],
     /// Whether its last part ends a unit.
     pub closes: bool,
-}
-
-// What the prover knows of a number or of a site is said by these functions, since it knows nothing of a struct's
-// fields before they are read.
-pub(crate) fn is_u32(n: u32)
-    ensures { n < 2 ^ 32 }
-{}
-
-pub(crate) fn is_u64(n: u64)
-    ensures { n < 2 ^ 64 }
-{}
-
-pub(crate) fn is_site(geometry: &Geometry)
-    ensures { IsWithinLimits geometry.now }
-{
-    is_u32(geometry.k);
-}
-
-fn is_change(change: &TableRecord)
-    ensures { IsTableRecord change.now }
-{
-    is_u32(change.kind);
-    is_u32(change.a);
-    is_u32(change.b);
-    is_u64(change.serial);
-}
-
-/// Table records, which have room in their fields.
-fn changes_from(changes: &[TableRecord], first: usize, count: usize) -> &[TableRecord]
-    requires { first + count ≤ length changes.now }
-    ensures value { result.now ≡ take count (drop first changes.now) }
-    ensures fit { AllByRecursion IsTableRecord result.now }
-{
-    let part = &changes[first..first + count];
-    'known: for change in part {
-        is_change(change);
-    }
-    part
 }
 
 fn ends_unit(closes: bool, last: bool) -> bool
@@ -94,26 +52,27 @@ fn write_piece<M: Machine>(
     requires batch { IsBatch geometry.now (brought_of batch.now) }
     requires stands { CanStand geometry.now log.head left (brought_of batch.now) piece }
     requires room { log_end geometry.now ≤ M.blocks machine.old }
-    requires buffer { length buffer.old ≡ 4096 * 241 }
+    requires buffer { length buffer.old ≡ 4096 * longest_part geometry.now }
     ensures crash { Runs (M.history machine.old) (M.history machine.new) (AddsPiece geometry.now log piece.next (part_of_unit (brought_of batch.now) left log.serial last piece) (blocks_of_part (brought_of batch.now) left piece)) }
+    ensures silent { Runs (M.history machine.old) (M.history machine.new) SaysNothing }
+    ensures synced { OnOk result (Now (M.history machine.new) IsSynced) }
     ensures added { OnOk result (Ends (M.history machine.old) (M.history machine.new) (HasAddedPiece geometry.now log piece.next (part_of_unit (brought_of batch.now) left log.serial last piece) (blocks_of_part (brought_of batch.now) left piece))) }
     ensures blocks { M.blocks machine.new ≡ M.blocks machine.old }
     ensures faults { HasCause (M.faults machine.old) (M.faults machine.new) result }
     ensures write_faults { HasCause (M.write_faults machine.old) (M.write_faults machine.new) result }
     ensures say_faults { M.say_faults machine.new ≡ M.say_faults machine.old }
 {
-    is_site(geometry);
-    is_u64(log.serial);
     let first = batch.load.len() - left.blocks;
     let change = batch.changes.len() - left.tables;
-    let changes = changes_from(batch.changes, change, piece.tables);
+    let changes = &batch.changes[change..change + piece.tables];
     let heading = Heading {
         serial: log.serial,
+        next_seg: piece.next.seg,
+        next_block: piece.next.block,
         ends: ends_unit(batch.closes, last),
-        piece,
     };
     let bytes = &mut buffer[..BLOCK * (1 + piece.blocks)];
-    fill(heading, &batch.load, first, changes, bytes);
+    fill(heading, &batch.load, first, piece.blocks, changes, bytes);
     write_part(machine, geometry, log, piece.next, bytes)
 }
 
@@ -176,8 +135,11 @@ pub(crate) fn write_parts<M: Machine>(
     requires batch { IsBatch geometry.now (brought_of batch.now) }
     requires enough { HasClean geometry.now log.head clean.now (length (brought_of batch.now).records) (length (brought_of batch.now).changes) }
     requires room { log_end geometry.now ≤ M.blocks machine.old }
-    requires buffer { length buffer.old ≡ 4096 * 241 }
+    requires buffer { length buffer.old ≡ 4096 * longest_part geometry.now }
     ensures crash { Runs (M.history machine.old) (M.history machine.new) (WritesUnit geometry.now log clean.now (brought_of batch.now)) }
+    ensures silent { Runs (M.history machine.old) (M.history machine.new) SaysNothing }
+    ensures synced { OnOk result (Now (M.history machine.new) IsSynced) }
+    ensures goes_on { IfOk result (λ done. GoesOn geometry.now log clean.now (length (brought_of batch.now).records) (length (brought_of batch.now).changes) done.0.head done.0.serial (drop done.1 clean.now)) }
     ensures written { IfOk result (λ done. Ends (M.history machine.old) (M.history machine.new) (HasWritten geometry.now log clean.now (brought_of batch.now) done.0 (drop done.1 clean.now))) }
     ensures place { IfOk result (λ done. IsLogPlace geometry.now done.0.head) }
     ensures used { IfOk result (λ done. done.1 ≤ length clean.now) }

@@ -4,9 +4,7 @@ ghost use Rattle.std.specs.Prelude.{◌≡◌, ◌<◌, ◌^◌, [], length, sli
 ghost use Rattle.hl_log.specs.Loads.{contents_of, records_of};
 
 use hl_bytes::{Block, BlockRecord};
-
-/// The index that stands for a table block.
-const TABLE: u32 = 4_294_967_293;
+use hl_summary::TABLE;
 
 /// Blocks with the records that say which they are, or the blocks of the tables, from the first on.
 #[derive(Clone, Copy)]

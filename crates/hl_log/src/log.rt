@@ -1,24 +1,25 @@
 //! The log of a site.
 
-ghost use Rattle.std.specs.Prelude.{◌≡◌, ◌≤◌, ◌<◌, ◌+◌, ◌*◌, ◌/◌, ◌^◌, length, IfOk, IfErr, OnOk, MatchOption};
+ghost use Rattle.std.specs.Prelude.{◌≡◌, ◌↔◌, IsTrue, false, ◌≤◌, ◌<◌, ◌+◌, ◌*◌, ◌/◌, ◌^◌, length, IfOk, IfErr, OnOk, MatchOption};
 ghost use Rattle.std.specs.Option.{ForSome};
 ghost use Rattle.hl_media.specs.History.{Adds, DidRead, DidWrite, DidSync, DidSay, HoldsAt, IsWhole, content};
 ghost use Rattle.hl_media.specs.Moments.{Runs, Ends, Now};
 ghost use Rattle.hl_media.specs.Causes.{HasCause};
 ghost use Rattle.hl_image.specs.Places.{log_end, IsLogPlace};
-ghost use Rattle.hl_log.specs.Cut.{HasClean, IsPlan};
+ghost use Rattle.hl_log.specs.Cut.{HasClean, IsPlan, Plans};
 ghost use Rattle.hl_log.specs.Free.{AreClean};
 ghost use Rattle.hl_log.specs.Checkpoints.{Checkpoints, IsOf, drafted, given_by};
 ghost use Rattle.hl_log.specs.Loads.{AreOf, bytes_of_tables};
 ghost use Rattle.hl_addr.specs.Layout.{table_blocks};
 ghost use Rattle.hl_log.specs.Logs.{CheckpointEnds, Opens, UnitEnds, opened_at, unit_of};
-ghost use Rattle.hl_log.specs.Rest.{Stays};
+ghost use Rattle.hl_log.specs.Rest.{SaysNothing, Stays};
 ghost use Rattle.hl_log.specs.Units.{WritesUnit};
 
-use crate::batch::{Batch, PART_MAX, has_clean, is_site, write_parts};
+use crate::batch::{Batch, has_clean, write_parts};
 use crate::checkpoint::{Draft, restarted, write_checkpoint};
 use crate::load::Load;
-use crate::plan::plan;
+use crate::part::longest_part;
+use crate::plan::{plan, put_plan};
 use crate::position::Position;
 use crate::unit::{Unit, UnitAnswer};
 use hl_addr::{Geometry, Numbers};
@@ -43,6 +44,8 @@ pub struct Log<M: Machine> {
 impl<M: Machine> Model for Log<M> {
     ghost use Rattle.std.specs.Prelude.{◌≡◌, ◌+◌, ◌*◌, ◌≤◌, length};
     ghost use Rattle.hl_image.specs.Places.{IsLogPlace};
+    ghost use Rattle.hl_addr.specs.Layout.{IsWithinLimits};
+    ghost use Rattle.hl_log.specs.Batches.{longest_part};
     ghost use Rattle.hl_log.specs.Logs.{LogValue, log_code};
 
     ghost Value = { LogValue M };
@@ -54,7 +57,8 @@ impl<M: Machine> Model for Log<M> {
     ghost invariant = { λ log. record {
       room : (1 + log.geometry.log + log.geometry.lines) * log.geometry.k ≤ M.blocks log.machine;
       head : IsLogPlace log.geometry log.at.head;
-      buffer : length log.buffer ≡ 4096 * 241;
+      limits : IsWithinLimits log.geometry;
+      buffer : length log.buffer ≡ 4096 * longest_part log.geometry;
     } };
 }
 
@@ -81,7 +85,7 @@ impl<M: Machine> Log<M> {
         let Ok(own) = geometry.copy(alloc) else {
             return Err((AllocError, machine));
         };
-        let Ok(buffer) = SegBuf::new(alloc, PART_MAX) else {
+        let Ok(buffer) = SegBuf::new(alloc, longest_part(&own)) else {
             return Err((AllocError, machine));
         };
         let at = opened_at(&rec, head, serial);
@@ -115,6 +119,21 @@ impl<M: Machine> Log<M> {
         &self.rec
     }
 
+    /// Whether `clean` is long enough for a unit of so many blocks and table records. It names segments of the log, each
+    /// once, and not the head's.
+    pub fn has_clean(&self, blocks: u32, tables: u32, clean: &[u32]) -> bool
+        requires { AreClean self.now.geometry self.now.at.head.seg clean.now }
+        ensures { IsTrue result ↔ HasClean self.now.geometry self.now.at.head clean.now blocks tables }
+    {
+        has_clean(
+            &self.geometry,
+            self.at.head,
+            blocks as usize,
+            tables as usize,
+            clean,
+        )
+    }
+
     /// The addresses of the blocks of a unit of so many blocks and table records: `write_unit` puts block i at the ith
     /// of them. `clean` names segments of the log, each once, and not the head's. None exactly where it is too short.
     pub fn plan(
@@ -125,7 +144,7 @@ impl<M: Machine> Log<M> {
         clean: &[u32],
     ) -> Result<Option<Vec<u32>>, AllocError>
         requires { AreClean self.now.geometry self.now.at.head.seg clean.now }
-        ensures { IfOk result (λ plan. MatchOption plan (¬ HasClean self.now.geometry self.now.at.head clean.now blocks tables) (λ v. IsPlan self.now.geometry self.now.at.head clean.now blocks tables v.items)) }
+        ensures { IfOk result (λ plan. Plans self.now.geometry self.now.at.head clean.now blocks tables plan) }
     {
         plan(
             alloc,
@@ -135,6 +154,30 @@ impl<M: Machine> Log<M> {
             tables as usize,
             clean,
         )
+    }
+
+    /// The same addresses, into memory that was taken before: those of a unit of one block for each of `addresses`. False
+    /// exactly where `clean` is too short; `addresses` are then as before.
+    pub fn plan_into(&self, tables: u32, clean: &[u32], addresses: &mut [u32]) -> bool
+        requires { AreClean self.now.geometry self.now.at.head.seg clean.now }
+        ensures enough { let n = length addresses.old in
+            IsTrue result ↔ HasClean self.now.geometry self.now.at.head clean.now n tables }
+        ensures plan { let n = length addresses.old in
+            IsTrue result → IsPlan self.now.geometry self.now.at.head clean.now n tables addresses.new }
+        ensures none { result ≡ false → addresses.new ≡ addresses.old }
+    {
+        let head = self.at.head;
+        if !has_clean(
+            &self.geometry,
+            head,
+            addresses.len(),
+            tables as usize,
+            clean,
+        ) {
+            return false;
+        }
+        put_plan(&self.geometry, head, tables as usize, clean, addresses);
+        true
     }
 
     /// Writes a unit at the log's head, in parts that take the clean segments in their order as they need them. `clean`
@@ -149,6 +192,7 @@ impl<M: Machine> Log<M> {
         requires unit { AreOf self.old.geometry (unit_of unit.now).records (unit_of unit.now).changes }
         requires few { length unit.now.blocks < 2 ^ 32 }
         ensures crash { Runs (M.history self.old.machine) (M.history self.new.machine) (WritesUnit self.old.geometry self.old.at clean.now (unit_of unit.now)) }
+        ensures silent { Runs (M.history self.old.machine) (M.history self.new.machine) SaysNothing }
         ensures ends { UnitEnds M.history M.faults M.write_faults clean.now (unit_of unit.now) self.old self.new result }
         ensures geometry { self.new.geometry ≡ self.old.geometry }
         ensures blocks { M.blocks self.new.machine ≡ M.blocks self.old.machine }
@@ -170,7 +214,8 @@ impl<M: Machine> Log<M> {
         ) {
             return UnitAnswer::LogFull;
         }
-        let buffer = self.buffer.part_mut(0, PART_MAX);
+        let longest = longest_part(&self.geometry);
+        let buffer = self.buffer.part_mut(0, longest);
         match write_parts(
             &mut self.machine,
             &self.geometry,
@@ -205,6 +250,7 @@ impl<M: Machine> Log<M> {
         requires tables { length tables.now ≡ table_blocks self.old.geometry }
         requires rec { IsOf self.old.geometry rec.now }
         ensures crash { Runs (M.history self.old.machine) (M.history self.new.machine) (Checkpoints self.old.geometry self.old.at clean.now (given_by self.old.rec.number rec.now) (bytes_of_tables tables.now)) }
+        ensures silent { Runs (M.history self.old.machine) (M.history self.new.machine) SaysNothing }
         ensures ends { CheckpointEnds M.history M.faults M.write_faults clean.now (given_by self.old.rec.number rec.now) (bytes_of_tables tables.now) self.old self.new result }
         ensures geometry { self.new.geometry ≡ self.old.geometry }
         ensures blocks { M.blocks self.new.machine ≡ M.blocks self.old.machine }
@@ -212,13 +258,13 @@ impl<M: Machine> Log<M> {
         ensures write_faults { M.write_faults self.old.machine ≤ M.write_faults self.new.machine }
         ensures say_faults { M.say_faults self.new.machine ≡ M.say_faults self.old.machine }
     {
-        is_site(&self.geometry);
         let draft = match self.draft(alloc, tables.len(), rec, clean) {
             Err(AllocError) => return UnitAnswer::Memory,
             Ok(None) => return UnitAnswer::LogFull,
             Ok(Some(draft)) => draft,
         };
-        let buffer = self.buffer.part_mut(0, PART_MAX);
+        let longest = longest_part(&self.geometry);
+        let buffer = self.buffer.part_mut(0, longest);
         match write_checkpoint(
             &mut self.machine,
             &self.geometry,

@@ -7,12 +7,7 @@ ghost use Rattle.hl_log.specs.Cut.{Goes, LeavesBehind, Takes};
 
 use hl_addr::Geometry;
 use hl_image::LogPlace;
-
-/// The most blocks that one part has.
-const BLOCKS_MAX: usize = 240;
-
-/// The most table records that one part has.
-const TABLES_MAX: usize = 80;
+use hl_summary::{BLOCKS_MAX, TABLES_MAX};
 
 /// One part of a unit: where it stands, how many blocks and table records it takes, and where the log goes on.
 #[derive(Clone, Copy)]

@@ -1,28 +1,63 @@
 //! Where the blocks of a unit will stand.
 
-ghost use Rattle.std.specs.Prelude.{◌≡◌, ◌≤◌, ◌+◌, ◌++◌, IfOk, OnOk, MatchOption};
+ghost use Rattle.std.specs.Prelude.{◌≡◌, ◌≤◌, ◌+◌, ◌++◌, IfOk, length, take};
 ghost use Rattle.std.specs.List.{range_with_len};
 ghost use Rattle.hl_image.specs.Places.{block_at, IsLogPlace};
-ghost use Rattle.hl_log.specs.Cut.{HasClean, IsPlan};
+ghost use Rattle.hl_log.specs.Cut.{HasClean, IsPlan, Plans};
 ghost use Rattle.hl_log.specs.Free.{AreClean};
 
-use crate::piece::{Left, Piece, next_piece};
+use crate::batch::has_clean;
+use crate::piece::{Left, Piece, is_done, next_piece};
 use crate::writing::block_at;
 use hl_addr::Geometry;
 use hl_image::LogPlace;
 use std::alloc::{AllocError, Global};
 
-/// Appends the addresses of a part's blocks.
-fn push_addresses(geometry: &Geometry, piece: Piece, plan: &mut Vec<u32>) -> Result<(), AllocError>
+/// Puts the addresses of a part's blocks behind the first `from` of all.
+fn put_addresses(geometry: &Geometry, piece: Piece, from: usize, addresses: &mut [u32])
     requires place { IsLogPlace geometry.now piece.at }
     requires within { piece.at.block + piece.blocks + 1 ≤ geometry.now.k }
-    ensures { OnOk result (plan.new.items ≡ plan.old.items ++ range_with_len (block_at geometry.now piece.at + 1) piece.blocks) }
+    requires room { from + piece.blocks ≤ length addresses.old }
+    ensures { let row = range_with_len (block_at geometry.now piece.at + 1) piece.blocks in
+        take (from + piece.blocks) addresses.new ≡ take from addresses.old ++ row }
 {
     let first = block_at(geometry, piece.at) + 1;
-    'push: for i in 0..piece.blocks {
-        plan.push(first + i as u32)?;
+    'put: for i in 0..piece.blocks {
+        addresses[from + i] = first + i as u32;
     }
-    Ok(())
+}
+
+/// Puts the addresses of the blocks of a unit at the head, of one block for each of `addresses`, and of so many table
+/// records.
+pub(crate) fn put_plan(
+    geometry: &Geometry,
+    head: LogPlace,
+    tables: usize,
+    clean: &[u32],
+    addresses: &mut [u32],
+)
+    requires place { IsLogPlace geometry.now head }
+    requires clean { AreClean geometry.now head.seg clean.now }
+    requires enough { HasClean geometry.now head clean.now (length addresses.old) tables }
+    ensures { IsPlan geometry.now head clean.now (length addresses.old) tables addresses.new }
+{
+    let blocks = addresses.len();
+    let mut left = Left {
+        at: head,
+        blocks,
+        tables,
+        used: 0,
+    };
+    'cut: loop {
+        let Some((piece, behind)) = next_piece(geometry, left, clean) else {
+            unreachable!()
+        };
+        put_addresses(geometry, piece, blocks - left.blocks, addresses);
+        left = behind;
+        if is_done(left) {
+            return;
+        }
+    }
 }
 
 /// The addresses of the blocks of a unit of so many blocks and table records at the head, and none where there are too
@@ -37,25 +72,12 @@ pub(crate) fn plan(
 ) -> Result<Option<Vec<u32>>, AllocError>
     requires place { IsLogPlace geometry.now head }
     requires clean { AreClean geometry.now head.seg clean.now }
-    ensures { IfOk result (λ plan. MatchOption plan (¬ HasClean geometry.now head clean.now blocks tables) (λ v. IsPlan geometry.now head clean.now blocks tables v.items)) }
+    ensures { IfOk result (Plans geometry.now head clean.now blocks tables) }
 {
-    let mut plan = Vec::new(alloc);
-    let mut left = Left {
-        at: head,
-        blocks,
-        tables,
-        used: 0,
-    };
-    'cut: loop {
-        match next_piece(geometry, left, clean) {
-            None => return Ok(None),
-            Some((piece, behind)) => {
-                push_addresses(geometry, piece, &mut plan)?;
-                if behind.blocks == 0 && behind.tables == 0 {
-                    return Ok(Some(plan));
-                }
-                left = behind;
-            }
-        }
+    if !has_clean(geometry, head, blocks, tables, clean) {
+        return Ok(None);
     }
+    let mut addresses = vec![in alloc; 0; blocks]?;
+    put_plan(geometry, head, tables, clean, addresses.as_mut_slice());
+    Ok(Some(addresses))
 }

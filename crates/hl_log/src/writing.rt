@@ -2,10 +2,11 @@
 
 ghost use Rattle.std.specs.Prelude.{◌≡◌, ◌≤◌, ◌<◌, ◌+◌, ◌*◌, ◌/◌, ◌^◌, ℕ, length, OnOk, true, false};
 ghost use Rattle.hl_media.specs.History.{IsWhole};
-ghost use Rattle.hl_media.specs.Moments.{Runs, Ends};
+ghost use Rattle.hl_media.specs.Moments.{Runs, Ends, Now};
 ghost use Rattle.hl_media.specs.Causes.{HasCause};
 ghost use Rattle.hl_bytes.specs.Fields.{zeros};
 ghost use Rattle.hl_image.specs.Places.{block_at, log_end, IsLogPlace};
+ghost use Rattle.hl_log.specs.Rest.{IsSynced, SaysNothing};
 ghost use Rattle.hl_log.specs.Steps.{AddsPart, HasAdded, HasPut, HeadCleared, KeepsChain, KeepsChainTo, NextCleared, PutsPart};
 
 use crate::position::Position;
@@ -37,6 +38,7 @@ fn clear_head<M: Machine>(machine: &mut M, geometry: &Geometry, log: Position) -
     requires place { IsLogPlace geometry.now log.head }
     requires room { log_end geometry.now ≤ M.blocks machine.old }
     ensures crash { Runs (M.history machine.old) (M.history machine.new) (KeepsChain geometry.now log) }
+    ensures silent { Runs (M.history machine.old) (M.history machine.new) SaysNothing }
     ensures cleared { OnOk result (Ends (M.history machine.old) (M.history machine.new) (HeadCleared geometry.now log)) }
     ensures blocks { M.blocks machine.new ≡ M.blocks machine.old }
     ensures faults { HasCause (M.faults machine.old) (M.faults machine.new) result }
@@ -58,6 +60,7 @@ fn clear_next<M: Machine>(
     requires place { IsLogPlace geometry.now next }
     requires room { log_end geometry.now ≤ M.blocks machine.old }
     ensures crash { Runs (M.history machine.old) (M.history machine.new) (KeepsChainTo geometry.now log next) }
+    ensures silent { Runs (M.history machine.old) (M.history machine.new) SaysNothing }
     ensures cleared { OnOk result (Ends (M.history machine.old) (M.history machine.new) (NextCleared geometry.now log next)) }
     ensures blocks { M.blocks machine.new ≡ M.blocks machine.old }
     ensures faults { HasCause (M.faults machine.old) (M.faults machine.new) result }
@@ -82,6 +85,8 @@ fn put_part<M: Machine>(
     requires whole { IsWhole bytes.now }
     requires within { log.head.block + length bytes.now / 4096 ≤ geometry.now.k }
     ensures crash { Runs (M.history machine.old) (M.history machine.new) (PutsPart geometry.now log next bytes.now) }
+    ensures silent { Runs (M.history machine.old) (M.history machine.new) SaysNothing }
+    ensures synced { OnOk result (Now (M.history machine.new) IsSynced) }
     ensures put { OnOk result (Ends (M.history machine.old) (M.history machine.new) (HasPut geometry.now log next bytes.now)) }
     ensures blocks { M.blocks machine.new ≡ M.blocks machine.old }
     ensures faults { HasCause (M.faults machine.old) (M.faults machine.new) result }
@@ -107,6 +112,8 @@ pub(crate) fn write_part<M: Machine>(
     requires whole { IsWhole bytes.now }
     requires within { log.head.block + length bytes.now / 4096 ≤ geometry.now.k }
     ensures crash { Runs (M.history machine.old) (M.history machine.new) (AddsPart geometry.now log next bytes.now) }
+    ensures silent { Runs (M.history machine.old) (M.history machine.new) SaysNothing }
+    ensures synced { OnOk result (Now (M.history machine.new) IsSynced) }
     ensures added { OnOk result (Ends (M.history machine.old) (M.history machine.new) (HasAdded geometry.now log next bytes.now)) }
     ensures blocks { M.blocks machine.new ≡ M.blocks machine.old }
     ensures faults { HasCause (M.faults machine.old) (M.faults machine.new) result }
@@ -126,6 +133,7 @@ pub(crate) fn settle<M: Machine>(
     requires place { IsLogPlace geometry.now log.head }
     requires room { log_end geometry.now ≤ M.blocks machine.old }
     ensures crash { Runs (M.history machine.old) (M.history machine.new) (KeepsChain geometry.now log) }
+    ensures silent { Runs (M.history machine.old) (M.history machine.new) SaysNothing }
     ensures cleared { OnOk result (Ends (M.history machine.old) (M.history machine.new) (HeadCleared geometry.now log)) }
     ensures blocks { M.blocks machine.new ≡ M.blocks machine.old }
     ensures faults { HasCause (M.faults machine.old) (M.faults machine.new) result }

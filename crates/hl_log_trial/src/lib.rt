@@ -1,11 +1,10 @@
-//! A small site with its log on a disk in memory: what the tests of `hl_log` stop at each moment.
+//! Logs of a small and of a large site on disks in memory, for trials that stop them at each moment.
 #![tactic(auto)]
 
 mod logs;
 mod sites;
-#[cfg(test)]
-mod tests;
 mod trial;
 mod units;
 
+pub use sites::{large, small};
 pub use trial::Trial;

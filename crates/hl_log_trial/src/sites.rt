@@ -1,50 +1,48 @@
-//! The site of the trials.
+//! The sites of the trials.
 
-ghost use Rattle.std.specs.Prelude.{◌≡◌, IfOk, [], ◌∷◌};
-ghost use Rattle.hl_log_trial.specs.Sites.{site};
+ghost use Rattle.std.specs.Prelude.{IfOk};
+ghost use Rattle.hl_log.specs.Checkpoints.{IsOf};
 
 use hl_addr::{Geometry, Numbers};
 use hl_super::{Label, Record};
 use std::alloc::{AllocError, Global};
 
-/// The label of the site.
-pub const LABEL: Label = Label {
-    k: 64,
-    log: 16,
-    lines: 13,
-    inodes: 512,
-};
-
-/// The site: 16 log segments of 64 blocks, 13 lines, 512 inode numbers, and one volume of four slots, so that its tables
-/// fill four blocks.
-pub fn site(alloc: Global) -> Result<Geometry, AllocError>
-    ensures { IfOk result (λ g. g ≡ site) }
-{
-    let mut slots = Vec::new(alloc);
-    slots.push(4)?;
+/// 16 log segments of 64 blocks, 13 lines, 512 inode numbers, and one volume of four slots: the tables fill four blocks.
+pub fn small(alloc: Global) -> Result<Geometry, AllocError> {
+    let slots = vec![in alloc; 4; 1]?;
     Geometry::new(64, 16, 13, 512, Numbers::of(slots)).ok_or(AllocError)
 }
 
-/// A record of this number, whose chain starts with this serial at a place.
-pub fn record(
-    alloc: Global,
-    number: u64,
-    serial: u64,
-    seg: u32,
-    block: u32,
-) -> Result<Record, AllocError>
-    ensures { IfOk result (λ r. (r.tseg_serial ≡ 1) × (r.format ≡ 1) × (r.volumes ≡ site.volumes)) }
+/// 16 log segments of 512 blocks, 13 lines, 512 inode numbers, and 64,768 slots, of which 256 fill a block: the tables
+/// fill 256 blocks, the most of any site.
+pub fn large(alloc: Global) -> Result<Geometry, AllocError> {
+    let mut slots = vec![in alloc; 4_096; 15]?;
+    slots.push(3_328)?;
+    Geometry::new(512, 16, 13, 512, Numbers::of(slots)).ok_or(AllocError)
+}
+
+/// The label of a site.
+pub fn label(site: &Geometry) -> Label {
+    Label {
+        k: site.k,
+        log: site.log,
+        lines: site.lines,
+        inodes: site.inodes,
+    }
+}
+
+/// A first record, whose chain starts with the serial 1 at a block of segment 1.
+pub fn record(alloc: Global, site: &Geometry, block: u32) -> Result<Record, AllocError>
+    ensures { IfOk result (IsOf site.now) }
 {
-    let mut slots = Vec::new(alloc);
-    slots.push(4)?;
     Ok(Record {
-        number,
-        serial,
-        seg,
+        number: 0,
+        serial: 1,
+        seg: 1,
         block,
         tseg_serial: 1,
         format: 1,
-        volumes: Numbers::of(slots),
+        volumes: site.volumes.copy(alloc)?,
         tables: Numbers::of(Vec::new(alloc)),
     })
 }

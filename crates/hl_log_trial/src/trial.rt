@@ -1,14 +1,14 @@
-//! A log of the site on a disk in memory, of which only images are seen.
+//! A log of a site on a disk in memory, of which only images are seen.
 
 ghost use Rattle.std.specs.Prelude.{◌≤◌};
 
-use crate::logs::{BLOCKS, chain_length, checkpoint, newest_record, open_on, write, zeros};
+use crate::logs::{chain_length, checkpoint, newest_record, open_on, write, zeros};
 use crate::sites::record;
 use crate::units::unit;
+use hl_addr::Geometry;
 use hl_log::{Log, UnitAnswer};
 use hl_mem::{MemMachine, Tear};
 use std::alloc::{AllocError, Global};
-use std::marker::Model;
 
 /// A log that was opened behind an empty chain, whose start is a block of segment 1.
 #[derive(Drop)]
@@ -17,28 +17,22 @@ pub struct Trial {
     block: u32,
 }
 
-impl Model for Trial {
-    ghost use Rattle.std.specs.Prelude.{◌≡◌};
-    ghost use Rattle.hl_log_trial.specs.Sites.{site};
-
-    ghost Value = { Unit {0} };
-
-    ghost view = { λ _. tt };
-
-    ghost invariant = { λ t. t.log.geometry ≡ site };
-}
-
 impl Trial {
-    /// A log on a disk of zeros; none where the block is off its segment.
-    pub fn fresh(alloc: Global, block: u32) -> Result<Option<Trial>, AllocError> {
-        let image = zeros(alloc, BLOCKS)?;
-        Trial::on(alloc, image.as_slice(), block)
+    /// A log of a site on a disk of zeros; none where the block is off its segment.
+    pub fn fresh(alloc: Global, site: &Geometry, block: u32) -> Result<Option<Trial>, AllocError> {
+        let image = zeros(alloc, site)?;
+        Trial::on(alloc, site, image.as_slice(), block)
     }
 
-    /// A log on a disk with these bytes; none where they are no disk of the site, or the block is off its segment.
-    pub fn on(alloc: Global, image: &[u8], block: u32) -> Result<Option<Trial>, AllocError> {
-        let rec = record(alloc, 0, 1, 1, block)?;
-        match open_on(alloc, image, rec, block, 1)? {
+    /// A log of a site on a disk with these bytes; none where they are no disk of the site, the block is off its segment,
+    /// or a unit stands in the chain that starts there.
+    pub fn on(
+        alloc: Global,
+        site: &Geometry,
+        image: &[u8],
+        block: u32,
+    ) -> Result<Option<Trial>, AllocError> {
+        match open_on(alloc, site, image, block)? {
             Some(log) => Ok(Some(Trial { log, block })),
             None => Ok(None),
         }
@@ -54,7 +48,9 @@ impl Trial {
     ) -> Result<bool, AllocError>
         requires { blocks ≤ 1036 }
     {
-        let unit = unit(alloc, blocks, byte, changes)?;
+        let Some(unit) = unit(alloc, self.log.geometry(), blocks, byte, changes)? else {
+            return Ok(false);
+        };
         let answer = write(&mut self.log, &unit);
         Ok(matches!(answer, Some(UnitAnswer::Written { .. })))
     }
@@ -91,9 +87,9 @@ impl Trial {
         moment: u64,
         tear: Tear,
     ) -> Result<Option<usize>, AllocError> {
-        let rec = record(alloc, 0, 1, 1, self.block)?;
+        let rec = record(alloc, self.log.geometry(), self.block)?;
         match self.stopped(alloc, moment, tear)? {
-            Some(image) => chain_length(alloc, image.as_slice(), &rec),
+            Some(image) => chain_length(alloc, self.log.geometry(), image.as_slice(), &rec),
             None => Ok(None),
         }
     }
@@ -109,10 +105,10 @@ impl Trial {
         let Some(image) = self.stopped(alloc, moment, tear)? else {
             return Ok(None);
         };
-        let Some(rec) = newest_record(alloc, image.as_slice())? else {
+        let Some(rec) = newest_record(alloc, self.log.geometry(), image.as_slice())? else {
             return Ok(None);
         };
-        match chain_length(alloc, image.as_slice(), &rec)? {
+        match chain_length(alloc, self.log.geometry(), image.as_slice(), &rec)? {
             Some(count) => Ok(Some((rec.number, count))),
             None => Ok(None),
         }

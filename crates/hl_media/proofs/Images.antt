@@ -2,7 +2,8 @@
 use Rattle.std.proofs.Common.{◌≡◌, ◌⊎◌, inl, inr, ℕ, zero, suc, ◌+◌, ◌-◌, ◌*◌, ◌/◌, ◌<◌, ◌≤◌, List, ◌++◌, length, take, drop, refl, sym, ◌∙◌, ap, arith, length-drop, take-append-drop}
 use Rattle.std.proofs.lemmas.List.{take_all, drop-drop, nil_from_length}
 use Rattle.std.proofs.lemmas.Bool.Decides.{nat_tests}
-use Rattle.hl_media.specs.History.{Image, block_of, overwritten, area, IsWhole}
+use Rattle.hl_bytes.specs.Buffers.{block_of}
+use Rattle.hl_media.specs.History.{Image, overwritten, area, IsWhole}
 
 pub overwritten_in : (image : Image) (at count : ℕ) (bytes : List ℕ) (k : ℕ) → at ≤ k → k < at + count → overwritten image at count bytes k ≡ block_of bytes (k - at)
 unfolding overwritten

@@ -1,14 +1,11 @@
 -- What has been done to a machine, and what follows from it of each moment.
-use Rattle.std.specs.Prelude.{◌≡◌, ◌⊎◌, ℕ, zero, suc, ◌+◌, ◌-◌, ◌*◌, ◌/◌, ◌<◌, ◌≤◌, Bool, true, false, ◌&&◌, nat_le, nat_lt, if◌then◌else◌, List, [], ◌∷◌, ◌++◌, length, take, drop, Option, option_map, Result, MatchResult}
+use Rattle.std.specs.Prelude.{◌≡◌, ◌⊎◌, ℕ, zero, suc, ◌+◌, ◌-◌, ◌*◌, ◌/◌, ◌<◌, ◌≤◌, Bool, true, false, ◌&&◌, nat_le, nat_lt, if◌then◌else◌, List, [], ◌∷◌, ◌++◌, length, take, Option, option_map, Result, MatchResult}
+use Rattle.hl_bytes.specs.Buffers.{block_of}
 use Rattle.hl_media.specs.declared.failed.Failed.{Failed}
 
 -- what a disk holds: the bytes of each block, by its number
 abbrev pub Image : Type 0
 Image = ℕ → List ℕ
-
--- block k of these bytes
-unfoldable pub block_of : List ℕ → ℕ → List ℕ
-block_of bytes k = take 4096 (drop (4096 * k) bytes)
 
 -- these bytes are whole blocks
 abbrev pub IsWhole : List ℕ → Type 0

@@ -1,6 +1,9 @@
+pub mod Carries
 pub mod Causes
 pub mod History
 pub mod Moments
+pub mod Racks
 pub mod Saying
 pub mod Synced
 pub mod Times
+pub mod Volumes

@@ -3,7 +3,8 @@ use Rattle.std.proofs.Common.{◌≡◌, ℕ, ◌*◌, List, [], ◌∷◌, ◌+
 use Rattle.std.specs.Prelude.{is_err}
 use Rattle.std.specs.declared.alloc.AllocError.{AllocError}
 use Rattle.std.proofs.lemmas.List.Elements.{All-push}
-use Rattle.hl_media.specs.History.{MachineState, DeviceCall, ended, state_after, opened, block_of}
+use Rattle.hl_bytes.specs.Buffers.{block_of}
+use Rattle.hl_media.specs.History.{MachineState, DeviceCall, ended, state_after, opened}
 use Rattle.hl_media.specs.History.DeviceCall.{Read, Sync, Say}
 use Rattle.hl_media.proofs.Runs.{state_after-append}
 use Rattle.hl_mem.specs.Recorded.{AddsCall}

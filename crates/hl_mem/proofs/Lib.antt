@@ -1,6 +1,10 @@
 pub mod KeptLemmas
 pub mod Parts
+pub mod Segments
+pub mod SlotStops
 pub mod Recordings
 pub mod Stops
 pub mod Taken
+pub mod Torn
+pub mod VolumeKept
 pub mod Writes

@@ -1,7 +1,7 @@
 -- The blocks of a list of bytes, a part of which is read or written.
 use Rattle.std.proofs.Common.{◌≡◌, ℕ, ◌+◌, ◌-◌, ◌*◌, ◌<◌, ◌≤◌, List, ◌++◌, length, take, drop, sym, ◌∙◌, ap, arith, length-drop}
 use Rattle.std.proofs.lemmas.List.{take-append-le, drop-append-le, drop-take, take-take, drop-drop, drop_at, length-take-le}
-use Rattle.hl_media.specs.History.{block_of}
+use Rattle.hl_bytes.specs.Buffers.{block_of}
 
 -- what was read from there
 pub slice_block : (xs : List ℕ) (at m k : ℕ) → 4096 * k + 4096 ≤ m → block_of (take m (drop (4096 * at) xs)) k ≡ block_of xs (at + k)

@@ -1,13 +1,13 @@
 -- Calls that are done again up to a moment.
-use Rattle.std.proofs.Common.{◌≡◌, ℕ, zero, suc, ◌+◌, ◌*◌, ◌<◌, ◌≤◌, List, [], ◌∷◌, ◌++◌, length, take, drop, get_or, All, refl, sym, ◌∙◌, ap, subst, arith}
+use Rattle.std.proofs.Common.{◌≡◌, ℕ, zero, suc, ◌+◌, ◌*◌, ◌/◌, ◌<◌, ◌≤◌, List, [], ◌∷◌, ◌++◌, length, take, drop, get_or, All, refl, sym, ◌∙◌, ap, subst, arith, length-take}
 use Rattle.std.proofs.lemmas.List.{take_more, take_at, map-append, take-map, length-map}
 use Rattle.std.proofs.lemmas.List.Elements.{All-get_or}
-use Rattle.hl_media.specs.History.{MachineState, DeviceCall, MayLeave, begun, ended, state_after, state_at, block_of}
+use Rattle.hl_media.specs.History.{MachineState, DeviceCall, begun, ended, state_after, state_at}
 use Rattle.hl_media.proofs.Runs.{state_after-append}
 use Rattle.hl_mem.specs.declared.call.Call.{Call}
 use Rattle.hl_mem.specs.declared.call.Call.TheVariants.{Reading, Writing, FailedWriting, Syncing, Saying}
 use Rattle.hl_mem.specs.Recorded.{call_of, calls_of}
-use Rattle.hl_mem.specs.Kept.{Shows, IsFit}
+use Rattle.hl_mem.specs.Kept.{IsFit}
 
 get_or-map : (said : List ℕ) (calls : List Call) (i : ℕ) (x : Call) → get_or (calls_of said calls) i (call_of said x) ≡ call_of said (get_or calls i x)
 get_or-map said [] i x = refl
@@ -59,20 +59,31 @@ pub back : (new old : List ℕ) (n : ℕ) → length new ≡ n → take n (new +
 back new old n size = take_at new (drop (length new) old) n size
 
 -- at the moment 2n
-pub shown_even : (s : MachineState) (said : List ℕ) (calls : List Call) (n m : ℕ) (now left : List ℕ) → n ≤ length calls → m ≡ 2 * n
-    → Shows (state_after s (calls_of said (take n calls))) now left → MayLeave (state_at s (calls_of said calls) m) (block_of left)
-shown_even s said calls n m now left le is shows =
-    let e : state_at s (calls_of said calls) m ≡ state_after s (calls_of said (take n calls)) =
-    ap (state_at s (calls_of said calls)) is ∙ moment_even s (calls_of said calls) n (omega (arith, length-map calls (call_of said), le)) ∙ ap (state_after s) (take-map (call_of said) n calls) in
-    subst (λ (t : MachineState). MayLeave t (block_of left)) (sym e) shows.image
+pub state_even : (s : MachineState) (said : List ℕ) (calls : List Call) (told : List DeviceCall) (n m : ℕ) → calls_of said calls ≡ told → n ≤ length calls → m ≡ 2 * n
+    → state_after s (calls_of said (take n calls)) ≡ state_at s told m
+state_even s said calls told n m told_is le is =
+    sym (
+    ap (λ (l : List DeviceCall). state_at s l m) (sym told_is)
+    ∙ ap (state_at s (calls_of said calls)) is ∙ moment_even s (calls_of said calls) n (omega (arith, length-map calls (call_of said), le)) ∙ ap (state_after s) (take-map (call_of said) n calls)
+    )
 
 -- at the moment 2n + 1
-pub shown_odd : (s : MachineState) (said : List ℕ) (calls : List Call) (n m : ℕ) (x : Call) (left : List ℕ) → n < length calls → m ≡ suc (2 * n) → x ≡ get_or calls n x
-    → MayLeave (begun (state_after s (calls_of said (take n calls))) (call_of said x)) (block_of left) → MayLeave (state_at s (calls_of said calls) m) (block_of left)
-shown_odd s said calls n m x left lt is item may =
+pub state_odd : (s : MachineState) (said : List ℕ) (calls : List Call) (told : List DeviceCall) (n m : ℕ) (x : Call) → calls_of said calls ≡ told → n < length calls → m ≡ suc (2 * n) → x ≡ get_or calls n x
+    → begun (state_after s (calls_of said (take n calls))) (call_of said x) ≡ state_at s told m
+state_odd s said calls told n m x told_is lt is item =
     let at : get_or (calls_of said calls) n (call_of said x) ≡ call_of said x = get_or-map said calls n x ∙ ap (call_of said) (sym item) in
-    let e : state_at s (calls_of said calls) m ≡ begun (state_after s (calls_of said (take n calls))) (call_of said x) =
-    ap (state_at s (calls_of said calls)) is ∙ moment_odd s (calls_of said calls) n (call_of said x) (omega (arith, length-map calls (call_of said), lt))
+    sym (
+    ap (λ (l : List DeviceCall). state_at s l m) (sym told_is)
+    ∙ ap (state_at s (calls_of said calls)) is ∙ moment_odd s (calls_of said calls) n (call_of said x) (omega (arith, length-map calls (call_of said), lt))
     ∙ ap (λ (l : List DeviceCall). begun (state_after s l) (get_or (calls_of said calls) n (call_of said x))) (take-map (call_of said) n calls)
-    ∙ ap (begun (state_after s (calls_of said (take n calls)))) at in
-    subst (λ (t : MachineState). MayLeave t (block_of left)) (sym e) may
+    ∙ ap (begun (state_after s (calls_of said (take n calls)))) at
+    )
+
+-- where a loop over the first calls has ended
+pub ended_at : (told : List DeviceCall) (said : List ℕ) (calls read : List Call) (m i : ℕ) → calls_of said calls ≡ told → read ≡ calls → m ≤ 2 * length told → length (take (m / 2) read) ≤ i → i ≤ length (take (m / 2) read)
+    → (i ≡ m / 2) × (i ≤ length calls) × (length told ≡ length calls)
+ended_at told said calls read m i is same past low high =
+    let long = ap length (sym is) ∙ length-map calls (call_of said) in
+    let size = ap length same in
+    let few = length-take (m / 2) read in
+    (omega arith, omega arith, long)

@@ -1,11 +1,14 @@
 -- What a write leaves in bytes that show a disk.
-use Rattle.std.proofs.Common.{◌≡◌, ◌⊎◌, inl, inr, ℕ, ◌+◌, ◌-◌, ◌*◌, ◌/◌, ◌<◌, ◌≤◌, true, List, ◌++◌, length, take, drop, sym, ◌∙◌, ap, arith, length-append, length-drop}
+use Rattle.std.proofs.Common.{◌≡◌, ◌⊎◌, inl, inr, ℕ, ◌+◌, ◌-◌, ◌*◌, ◌/◌, ◌<◌, ◌≤◌, List, ◌++◌, length, take, drop, sym, ◌∙◌, ap, arith, length-append, length-drop}
 use Rattle.std.proofs.lemmas.List.{length-take-le}
 use Rattle.std.proofs.lemmas.Bool.{cases_lt}
-use Rattle.hl_media.specs.History.{Image, MachineState, MayLeave, begun, ended, block_of, overwritten}
-use Rattle.hl_media.specs.History.DeviceCall.{Write, Sync}
+use Rattle.hl_bytes.specs.Buffers.{block_of}
+use Rattle.hl_media.specs.History.{Image, MachineState, MayLeave, begun, ended, overwritten}
+use Rattle.hl_media.specs.History.DeviceCall.{Write}
 use Rattle.hl_media.proofs.Images.{overwritten_in, overwritten_out}
 use Rattle.hl_mem.proofs.Parts.{put, slice_block, below, inside, above}
+use Rattle.hl_mem.specs.declared.tear.Tear.{Tear}
+use Rattle.hl_mem.specs.Tears.{IsTorn}
 use Rattle.hl_mem.specs.Kept.{Shows, SameOutside}
 
 pub length_put : (xs ys : List ℕ) (at m : ℕ) → length ys ≡ m → 4096 * at + m ≤ length xs → length (put xs ys at m) ≡ length xs
@@ -58,13 +61,10 @@ pub write_begun : (s : MachineState) (at : ℕ) (bytes after left torn : List �
 write_begun s at bytes after left torn same may k free = same k free.0 ∙ may k free.1
 
 -- and after it
-pub write_shows : (s : MachineState) (at : ℕ) (bytes after now left torn : List ℕ) → SameOutside at bytes left torn → Shows s now left
-    → (next : List ℕ) → ((k : ℕ) → overwritten s.content at (length bytes / 4096) after k ≡ block_of next k) → Shows (ended s (Write at bytes after)) next torn
-write_shows s at bytes after now left torn same shows next content = record {
+pub write_shows : (tear : Tear) (s : MachineState) (at : ℕ) (bytes after now left over : List ℕ) → SameOutside at bytes left over → IsTorn tear (ended s (Write at bytes after)) over → Shows tear s now left
+    → (next : List ℕ) → ((k : ℕ) → overwritten s.content at (length bytes / 4096) after k ≡ block_of next k) → Shows tear (ended s (Write at bytes after)) next over
+write_shows tear s at bytes after now left over same is shows next content = record {
   content = content;
   image = λ k free. same k free.0 ∙ shows.image k free.1 ∙ sym (overwritten_out s.content at (length bytes / 4096) after k free.0);
+  torn = is;
 }
-
--- after a sync a stop leaves what a read gives
-pub sync_shows : (s : MachineState) (now left : List ℕ) → Shows s now left → Shows (ended s (Sync true)) now now
-sync_shows s now left shows = record { content = shows.content; image = λ k free. sym (shows.content k) }

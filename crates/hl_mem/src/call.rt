@@ -1,11 +1,14 @@
 //! A call as a recording keeps it.
 
 ghost use Rattle.std.specs.Prelude.{◌≡◌, ◌≤◌, ◌+◌, ◌*◌, ℕ, List, [], length};
-ghost use Rattle.hl_media.specs.History.{MachineState, MayLeave, IsWhole, begun, ended, block_of};
+ghost use Rattle.hl_bytes.specs.Buffers.{block_of};
+ghost use Rattle.hl_media.specs.History.{MachineState, MayLeave, IsWhole, begun, ended};
 ghost use Rattle.hl_media.specs.History.DeviceCall.{Write};
 ghost use Rattle.hl_mem.specs.Kept.{Shows, IsFit, SameOutside};
+ghost use Rattle.hl_mem.specs.Tears.{IsTorn, TearsWrite};
 
 use crate::tear::Tear;
+use crate::tearing::leave;
 
 /// A call of a machine. What was said stands in the recording, once.
 #[derive(Drop)]
@@ -38,7 +41,7 @@ impl Call {
     pub fn redo(&self, content: &mut [u8], image: &mut [u8], tear: Tear)
         requires fit { IsFit (length content.old) (call_of [] self.now) }
         requires same { length image.old ≡ length content.old }
-        ensures { (said : List ℕ) (s : MachineState) → Shows s content.old image.old → Shows (ended s (call_of said self.now)) content.new image.new }
+        ensures { (said : List ℕ) (s : MachineState) → Shows tear s content.old image.old → Shows tear (ended s (call_of said self.now)) content.new image.new }
     {
         match self {
             Call::Writing { at, bytes } => redo_write(*at, bytes, bytes, content, image, tear),
@@ -53,6 +56,7 @@ impl Call {
     /// Begins the call again, on what a stop may leave.
     pub fn redo_begun(&self, image: &mut [u8], tear: Tear)
         requires fit { IsFit (length image.old) (call_of [] self.now) }
+        ensures torn { (said : List ℕ) (s : MachineState) → IsTorn tear s image.old → IsTorn tear (begun s (call_of said self.now)) image.new }
         ensures may { (said : List ℕ) (s : MachineState) → MayLeave s (block_of image.old) → MayLeave (begun s (call_of said self.now)) (block_of image.new) }
     {
         match self {
@@ -67,17 +71,18 @@ impl Call {
 fn tear_write(at: u32, bytes: &[u8], image: &mut [u8], tear: Tear)
     requires whole { IsWhole bytes.now }
     requires within { 4096 * at + length bytes.now ≤ length image.old }
-    ensures { SameOutside at bytes.now image.old image.new }
+    ensures outside { SameOutside at bytes.now image.old image.new }
+    ensures torn { TearsWrite tear at bytes.now image.old image.new }
 {
     let start = 4096 * (at as usize);
-    tear.leave(&mut image[start..start + bytes.len()], bytes);
+    leave(tear, &mut image[start..start + bytes.len()], bytes);
 }
 
 // Does a write again, on what a read gives and on what a stop may leave.
 fn redo_write(at: u32, bytes: &[u8], after: &[u8], content: &mut [u8], image: &mut [u8], tear: Tear)
     requires fit { IsFit (length content.old) (Write at bytes.now after.now) }
     requires same { length image.old ≡ length content.old }
-    ensures { (s : MachineState) → Shows s content.old image.old → Shows (ended s (Write at bytes.now after.now)) content.new image.new }
+    ensures { (s : MachineState) → Shows tear s content.old image.old → Shows tear (ended s (Write at bytes.now after.now)) content.new image.new }
 {
     tear_write(at, bytes, image, tear);
     let start = 4096 * (at as usize);

@@ -1,7 +1,7 @@
 //! The calls of a device that are to fail.
 
-ghost use Rattle.std.specs.Prelude.{◌≡◌, ◌∷◌, [], ◌++◌, OnOk, OnErr};
-ghost use Rattle.hl_mem.specs.Failing.{Plan, is_next, after_next};
+ghost use Rattle.std.specs.Prelude.{◌≡◌, OnOk, OnErr};
+ghost use Rattle.hl_mem.specs.Failing.{is_next, after_next, no_plan, planned};
 
 use std::alloc::{AllocError, Global};
 use std::marker::Model;
@@ -24,7 +24,7 @@ impl Model for Failing {
 impl Failing {
     /// No call was made, and none is to fail.
     pub fn new(alloc: Global) -> Failing
-        ensures { result ≡ record { made = 0; numbers = [] } }
+        ensures { result ≡ no_plan }
     {
         Failing {
             made: 0,
@@ -34,7 +34,7 @@ impl Failing {
 
     /// The call of this number is to fail, counted from 1.
     pub fn add(&mut self, number: u64) -> Result<(), AllocError>
-        ensures added { OnOk result (self.new ≡ record { made = self.old.made; numbers = self.old.numbers ++ number ∷ [] }) }
+        ensures added { OnOk result (self.new ≡ planned self.old number) }
         ensures kept { OnErr result (self.new ≡ self.old) }
     {
         self.numbers.push(number)?;

@@ -6,10 +6,14 @@ mod clock;
 mod failing;
 mod machine;
 mod recording;
+mod segment;
 mod source;
 mod tear;
+mod tearing;
 #[cfg(test)]
 mod tests;
+mod transfer;
+mod transfers;
 mod volume;
 
 pub use clock::MemClock;

@@ -1,8 +1,12 @@
 //! A disk and an output in memory.
 
-ghost use Rattle.std.specs.Prelude.{◌≡◌, ◌<◌, ◌≤◌, ◌/◌, ◌^◌, length, IfOk};
-ghost use Rattle.hl_media.specs.History.{IsWhole, MayLeave, moment as moment_of, at_moment, block_of};
-ghost use Rattle.hl_mem.specs.Told.{history_of, opened_on, said_by, zeros};
+ghost use Rattle.std.specs.Prelude.{◌≡◌, ◌+◌, ◌<◌, ◌≤◌, ◌/◌, ◌^◌, length, IfOk, OnOk, OnErr};
+ghost use Rattle.hl_bytes.specs.Buffers.{block_of};
+ghost use Rattle.hl_media.specs.Causes.{HasCause};
+ghost use Rattle.hl_mem.specs.Failing.{Follows, planned};
+ghost use Rattle.hl_mem.specs.Tears.{IsTorn};
+ghost use Rattle.hl_media.specs.History.{DidRead, DidSay, DidSync, DidWrite, IsWhole, MayLeave, moment as moment_of, at_moment};
+ghost use Rattle.hl_mem.specs.Told.{GoesOn, Reads, history_of, opened_on, said_by, zeros};
 
 use crate::failing::Failing;
 use crate::recording::Recording;
@@ -38,6 +42,7 @@ impl Model for MemMachine {
       blocks = machine.blocks;
       opening = machine.opening.items;
       calls = machine.recording;
+      plan = machine.failing;
       faults = machine.faults;
       write_faults = machine.write_faults;
       say_faults = machine.say_faults;
@@ -87,10 +92,10 @@ impl MemMachine {
     /// Makes the call of this number fail, counted from 1 over the reads, writes, syncs and says that were made,
     /// those too that found no memory for their record. A number that is past makes none fail.
     pub fn fail_call(&mut self, _alloc: Global, number: u64) -> Result<(), AllocError>
-        ensures { self.new ≡ self.old }
+        ensures added { OnOk result (self.new ≡ record self.old { plan = planned self.old.plan number }) }
+        ensures kept { OnErr result (self.new ≡ self.old) }
     {
-        self.failing.add(number)?;
-        Ok(())
+        self.failing.add(number)
     }
 
     /// The bytes said so far.
@@ -113,6 +118,7 @@ impl MemMachine {
     pub fn stop_image(&self, alloc: Global, moment: u64, tear: Tear) -> Result<Vec<u8>, AllocError>
         requires past { moment ≤ moment_of (history_of self.now) }
         ensures image { IfOk result (λ image. MayLeave (at_moment (history_of self.now) moment) (block_of image.items)) }
+        ensures torn { IfOk result (λ image. IsTorn tear (at_moment (history_of self.now) moment) image.items) }
         ensures size { IfOk result (λ image. length image.items ≡ length self.now.opening) }
     {
         self.recording
@@ -146,7 +152,17 @@ impl Machine for MemMachine {
         self.write_faults
     }
 
-    fn read(&mut self, at: u32, out: &mut [u8]) -> Result<(), Failed> {
+    fn read(&mut self, at: u32, out: &mut [u8]) -> Result<(), Failed>
+        requires whole { IsWhole out.old }
+        requires within { at + length out.old / 4096 ≤ self.old.blocks }
+        ensures did { GoesOn self.old self.new (DidRead result) }
+        ensures bytes { OnOk result (Reads self.old at out.new) }
+        ensures blocks { self.new.blocks ≡ self.old.blocks }
+        ensures faults { HasCause self.old.faults self.new.faults result }
+        ensures write_faults { self.new.write_faults ≡ self.old.write_faults }
+        ensures say_faults { self.new.say_faults ≡ self.old.say_faults }
+        ensures plan { Follows self.old.plan self.new.plan result (self.new.calls ≡ self.old.calls) }
+    {
         let fails = self.failing.next();
         let kept = self.recording.add_read();
         if fails || kept.is_err() {
@@ -158,7 +174,16 @@ impl Machine for MemMachine {
         Ok(())
     }
 
-    fn write(&mut self, at: u32, bytes: &[u8]) -> Result<(), Failed> {
+    fn write(&mut self, at: u32, bytes: &[u8]) -> Result<(), Failed>
+        requires whole { IsWhole bytes.now }
+        requires within { at + length bytes.now / 4096 ≤ self.old.blocks }
+        ensures did { GoesOn self.old self.new (DidWrite at bytes.now result) }
+        ensures blocks { self.new.blocks ≡ self.old.blocks }
+        ensures faults { HasCause self.old.faults self.new.faults result }
+        ensures write_faults { HasCause self.old.write_faults self.new.write_faults result }
+        ensures say_faults { self.new.say_faults ≡ self.old.say_faults }
+        ensures plan { Follows self.old.plan self.new.plan result (self.new.calls ≡ self.old.calls) }
+    {
         let start = 4096 * (at as usize);
         let end = start + bytes.len();
         if self.failing.next() {
@@ -179,7 +204,14 @@ impl Machine for MemMachine {
         Ok(())
     }
 
-    fn sync(&mut self) -> Result<(), Failed> {
+    fn sync(&mut self) -> Result<(), Failed>
+        ensures did { GoesOn self.old self.new (DidSync result) }
+        ensures blocks { self.new.blocks ≡ self.old.blocks }
+        ensures faults { HasCause self.old.faults self.new.faults result }
+        ensures write_faults { HasCause self.old.write_faults self.new.write_faults result }
+        ensures say_faults { self.new.say_faults ≡ self.old.say_faults }
+        ensures plan { Follows self.old.plan self.new.plan result (self.new.calls ≡ self.old.calls) }
+    {
         let fails = self.failing.next();
         let kept = self.recording.add_sync(!fails);
         if fails || kept.is_err() {
@@ -190,7 +222,14 @@ impl Machine for MemMachine {
         Ok(())
     }
 
-    fn say(&mut self, bytes: &[u8]) -> Result<(), Failed> {
+    fn say(&mut self, bytes: &[u8]) -> Result<(), Failed>
+        ensures did { GoesOn self.old self.new (DidSay bytes.now result) }
+        ensures blocks { self.new.blocks ≡ self.old.blocks }
+        ensures faults { self.new.faults ≡ self.old.faults }
+        ensures write_faults { self.new.write_faults ≡ self.old.write_faults }
+        ensures say_faults { HasCause self.old.say_faults self.new.say_faults result }
+        ensures plan { Follows self.old.plan self.new.plan result (self.new.calls ≡ self.old.calls) }
+    {
         let fails = self.failing.next();
         let count = if fails { bytes.len() / 2 } else { bytes.len() };
         let kept = self.recording.add_say(&bytes[..count]);

@@ -1,10 +1,12 @@
 //! The recording of a machine's calls.
 
 ghost use Rattle.std.specs.Prelude.{◌≡◌, ◌<◌, ◌≤◌, ◌*◌, ◌^◌, [], length, IfOk, OnErr, All};
-ghost use Rattle.hl_media.specs.History.{MayLeave, opened, state_at, block_of};
+ghost use Rattle.hl_bytes.specs.Buffers.{block_of};
+ghost use Rattle.hl_media.specs.History.{MayLeave, opened, state_at};
 ghost use Rattle.hl_media.specs.History.DeviceCall.{Read, Write, Sync, Say};
 ghost use Rattle.hl_mem.specs.Recorded.{Says, AddsCall, IsQuiet, call_of};
 ghost use Rattle.hl_mem.specs.Kept.{IsFit};
+ghost use Rattle.hl_mem.specs.Tears.{IsTorn};
 
 use crate::call::Call;
 use crate::tear::Tear;
@@ -126,6 +128,7 @@ impl Recording {
         requires fit { All (IsFit (length opening.now)) self.now }
         requires past { moment ≤ 2 * length self.now }
         ensures image { IfOk result (λ image. MayLeave (state_at (opened (record { opening = block_of opening.now; calls = [] })) self.now moment) (block_of image.items)) }
+        ensures torn { IfOk result (λ image. IsTorn tear (state_at (opened (record { opening = block_of opening.now; calls = [] })) self.now moment) image.items) }
         ensures size { IfOk result (λ image. length image.items ≡ length opening.now) }
     {
         let done = (moment / 2) as usize;
@@ -134,9 +137,10 @@ impl Recording {
         for call in &self.calls[..done] {
             call.redo(content.as_mut_slice(), image.as_mut_slice(), tear);
         }
-        if moment % 2 == 1 {
-            self.calls[done].redo_begun(image.as_mut_slice(), tear);
+        if moment % 2 == 0 {
+            return Ok(image);
         }
+        self.calls[done].redo_begun(image.as_mut_slice(), tear);
         Ok(image)
     }
 }

@@ -1,6 +1,10 @@
 //! An input in memory.
 
-ghost use Rattle.std.specs.Prelude.{◌≡◌, ◌≤◌};
+ghost use Rattle.std.specs.Prelude.{◌≡◌, ◌≤◌, Some, OnOk, OnErr};
+ghost use Rattle.std.specs.Io.{ReadsAtMost};
+ghost use Rattle.std.specs.Io.KnownBytes.{ReadConsumes};
+ghost use Rattle.hl_media.specs.Causes.{HasCause};
+ghost use Rattle.hl_mem.specs.Failing.{Follows, planned};
 ghost use Rattle.hl_mem.specs.Told.{input_of};
 
 use crate::failing::Failing;
@@ -24,7 +28,7 @@ impl Model for MemSource {
 
     ghost Value = { Input };
 
-    ghost view = { λ source. record { left = drop source.at source.bytes.items; faults = source.faults } };
+    ghost view = { λ source. record { left = drop source.at source.bytes.items; plan = source.failing; faults = source.faults } };
 
     ghost invariant = { λ source. (source.at ≤ length source.bytes.items) × (1 ≤ source.piece) };
 }
@@ -47,10 +51,10 @@ impl MemSource {
 
     /// Makes the read of this number fail, counted from 1. A number that is past makes none fail.
     pub fn fail_call(&mut self, _alloc: Global, number: u64) -> Result<(), AllocError>
-        ensures { self.new ≡ self.old }
+        ensures added { OnOk result (self.new ≡ record self.old { plan = planned self.old.plan number }) }
+        ensures kept { OnErr result (self.new ≡ self.old) }
     {
-        self.failing.add(number)?;
-        Ok(())
+        self.failing.add(number)
     }
 }
 
@@ -61,7 +65,12 @@ impl Source for MemSource {
 
     ghost faults = { λ source. source.faults };
 
-    fn read(&mut self, out: &mut [u8]) -> Result<usize, Failed> {
+    fn read(&mut self, out: &mut [u8]) -> Result<usize, Failed>
+        ensures bound { ReadsAtMost result out.new }
+        ensures bytes { ReadConsumes (Some self.old.left) (Some self.new.left) result out.new }
+        ensures faults { HasCause self.old.faults self.new.faults result }
+        ensures plan { Follows self.old.plan self.new.plan result ⊥ }
+    {
         if self.failing.next() {
             self.faults = self.faults.saturating_add(1);
             return Err(Failed);

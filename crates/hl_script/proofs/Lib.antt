@@ -5,3 +5,4 @@ pub mod PathLoop
 pub mod Places
 pub mod Fronts
 pub mod Cuts
+pub mod OneLine

@@ -7,6 +7,11 @@ use Rattle.std.specs.List.{before_first, after_first, position_or_len, onto_firs
 abbrev pub is_newline : ℕ → Bool
 is_newline b = b == 10
 
+-- none of these bytes is a newline
+abbrev pub HasNoNewline : List ℕ → Type 0
+HasNoNewline [] = Unit {0}
+HasNoNewline (b ∷ bytes) = (is_newline b ≡ false) × HasNoNewline bytes
+
 -- the lines: each ends with a newline, the last one perhaps with the input
 abbrev pub lines_of : List ℕ → List (List ℕ)
 lines_of [] = []

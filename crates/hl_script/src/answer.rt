@@ -1,8 +1,10 @@
 //! The text of an answer.
 
-ghost use Rattle.std.specs.Prelude.{◌≡◌, ◌++◌, codes, false, OnOk, OnErr};
+ghost use Rattle.std.specs.Prelude.{◌≡◌, ◌∷◌, [], ◌++◌, codes, false, OnOk, OnErr};
 ghost use Rattle.std.specs.Io.{StartsWith};
 ghost use Rattle.hl_script.specs.Answer.{reply_word, reply_fields, answer_word, answer_fields, answer_text, answer_line, printed_number, is_memory};
+ghost use Rattle.hl_script.specs.Input.{HasNoNewline, lines_of};
+ghost use Rattle.hl_script.specs.declared.said.Said.{Said};
 
 use crate::print::{push_data, push_names, push_number, push_paths};
 use crate::refusal::refusal_text;
@@ -162,6 +164,12 @@ fn push_line(out: &mut Vec<u8>, said: &Said) -> Result<(), AllocError>
     out.push(b'\n')?;
     Ok(())
 }
+
+/// Each answer is one line: its text has no newline.
+pub fn answers_are_lines()
+    ensures text { (answer : Said) → HasNoNewline (answer_text answer) }
+    ensures line { (answer : Said) → lines_of (answer_line answer) ≡ answer_text answer ∷ [] }
+{}
 
 /// Appends the answer's text and a newline (`docs/SCRIPT.md`, "Answers"). An answer of memory has no text.
 /// The room comes from the allocator of `out`; where it is wanting, `out` is as before.

@@ -1,20 +1,19 @@
 //! Bytes that were read and not yet taken.
 
-ghost use Rattle.std.specs.Prelude.{◌≡◌, ◌≤◌, ◌<◌, ◌+◌, ◌-◌, List, ℕ, OnOk, OnErr, IfOk, Err, length, take, drop, []};
+ghost use Rattle.std.specs.Prelude.{◌≡◌, ◌≤◌, ◌<◌, ◌+◌, ◌-◌, List, ℕ, IfOk, length, take, drop, []};
 ghost use Rattle.std.specs.Io.{ReadsAtMost};
 ghost use Rattle.std.specs.Io.KnownBytes.{ReadConsumes};
-ghost use Rattle.hl_media.specs.Causes.{HasCause, Rose};
+ghost use Rattle.hl_media.specs.Causes.{HasCause};
 ghost use Rattle.hl_script.specs.Input.{ReadsOn, longest, most_held};
 
-use crate::fault::LineFault;
 use hl_media::{Failed, Source};
 use std::alloc::{AllocError, Global};
 use std::marker::Model;
 
-/// How many bytes more there is room for, where there is none.
-const PIECE: usize = 65_536;
+/// The most bytes that are held at once: those of the longest line, and a piece of 65,536 bytes more.
+const ROOM: usize = 205_536;
 
-/// A row of bytes that grows at its end and is taken off its front. It keeps the room that it once had.
+/// A row of bytes that grows at its end and is taken off its front. All the room that it needs is taken in `new`.
 #[derive(Drop)]
 pub(crate) struct Buffer {
     bytes: Vec<u8>,
@@ -23,14 +22,14 @@ pub(crate) struct Buffer {
 }
 
 impl Model for Buffer {
-    ghost use Rattle.std.specs.Prelude.{◌≤◌, List, ℕ, length, take, drop};
+    ghost use Rattle.std.specs.Prelude.{◌≡◌, ◌≤◌, List, ℕ, length, take, drop};
     ghost use Rattle.hl_script.specs.Input.{most_held};
 
     ghost Value = { List ℕ };
 
     ghost view = { λ b. drop b.start (take b.end b.bytes.items) };
 
-    ghost invariant = { λ b. (b.start ≤ b.end) × (b.end ≤ length b.bytes.items) × (length b.bytes.items ≤ most_held) };
+    ghost invariant = { λ b. (b.start ≤ b.end) × (b.end ≤ most_held) × (length b.bytes.items ≡ most_held) };
 }
 
 impl Buffer {
@@ -40,7 +39,7 @@ impl Buffer {
         ensures { IfOk result (λ buffer. buffer ≡ []) }
     {
         Ok(Buffer {
-            bytes: vec![in alloc; 0u8; PIECE]?,
+            bytes: vec![in alloc; 0u8; ROOM]?,
             start: 0,
             end: 0,
         })
@@ -62,17 +61,13 @@ impl Buffer {
     }
 
     /// Reads once, and puts what was read behind what is held.
-    pub(crate) fn read<S: Source>(&mut self, source: &mut S) -> Result<usize, LineFault>
+    pub(crate) fn read<S: Source>(&mut self, source: &mut S) -> Result<usize, Failed>
         requires { length self.old ≤ longest }
         ensures bounded { length self.new ≤ most_held }
         ensures bytes { ReadsOn (S.left source.old) (S.left source.new) result self.old self.new }
-        ensures later { S.faults source.old ≤ S.faults source.new }
-        ensures input { result ≡ Err LineFault.Input → Rose (S.faults source.old) (S.faults source.new) }
-        ensures quiet { OnOk result (S.faults source.new ≡ S.faults source.old) }
-        ensures memory { result ≡ Err LineFault.Memory → S.faults source.new ≡ S.faults source.old }
-        ensures others { result ≡ Err LineFault.TooLong → ⊥ }
+        ensures faults { HasCause (S.faults source.old) (S.faults source.new) result }
     {
-        let start = make_room(&mut self.bytes, self.start, self.end)?;
+        let start = make_room(&mut self.bytes, self.start, self.end);
         self.end = start + (self.end - self.start);
         self.start = start;
         match read_behind(&mut self.bytes, self.end, source) {
@@ -80,31 +75,25 @@ impl Buffer {
                 self.end += count;
                 Ok(count)
             }
-            Err(Failed) => Err(LineFault::Input),
+            Err(Failed) => Err(Failed),
         }
     }
 }
 
 /// Leaves room behind the bytes from `start` to `end`, and says where they then start.
-fn make_room(bytes: &mut Vec<u8>, start: usize, end: usize) -> Result<usize, AllocError>
+fn make_room(bytes: &mut Vec<u8>, start: usize, end: usize) -> usize
     requires ordered { start ≤ end }
     requires within { end ≤ length bytes.old.items }
-    requires short { end - start ≤ longest }
-    requires bounded { length bytes.old.items ≤ most_held }
-    ensures room { IfOk result (λ at. at + (end - start) < length bytes.new.items) }
-    ensures same { IfOk result (λ at. drop at (take (at + (end - start)) bytes.new.items) ≡ drop start (take end bytes.old.items)) }
-    ensures bounded { length bytes.new.items ≤ most_held }
-    ensures err { OnErr result (bytes.new.items ≡ bytes.old.items) }
+    requires short { end - start < length bytes.old.items }
+    ensures room { result + (end - start) < length bytes.new.items }
+    ensures same { drop result (take (result + (end - start)) bytes.new.items) ≡ drop start (take end bytes.old.items) }
+    ensures len { length bytes.new.items ≡ length bytes.old.items }
 {
     if end < bytes.len() {
-        return Ok(start);
+        return start;
     }
-    if start > 0 {
-        bytes.copy_within(start..end, 0);
-        return Ok(0);
-    }
-    bytes.resize(end + PIECE, 0)?;
-    Ok(0)
+    bytes.copy_within(start..end, 0);
+    0
 }
 
 /// Reads once into what stands behind `end`.

@@ -15,13 +15,10 @@ mod refusal;
 mod said;
 mod word;
 
-pub use answer::print_answer;
+pub use answer::{answers_are_lines, print_answer};
 pub use fault::LineFault;
 pub use kind::Kind;
 pub use line::{BadLine, Line};
 pub use lines::Lines;
 pub use reading::{read_line, read_user_line};
 pub use said::Said;
-
-#[cfg(test)]
-mod tests;

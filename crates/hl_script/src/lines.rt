@@ -1,15 +1,15 @@
 //! The lines of an input, one after another.
 
-ghost use Rattle.std.specs.Prelude.{◌≡◌, ◌≤◌, ◌<◌, IsTrue, true, [], length, OnOk, OnErr, IfOk, IfSome, Err, Some};
+ghost use Rattle.std.specs.Prelude.{◌≡◌, ◌≤◌, ◌<◌, IsTrue, true, [], length, vec_capacity, OnOk, OnErr, IfOk, IfSome, Err, Some};
 ghost use Rattle.std.specs.Io.KnownBytes.{Keeps, prepend_known};
 ghost use Rattle.std.specs.List.{position_or_len};
-ghost use Rattle.hl_media.specs.Causes.{Rose};
-ghost use Rattle.hl_script.specs.Input.{is_newline, IsReady, Gives, passes_limit, Cuts, IsTooLong, most_held};
+ghost use Rattle.hl_media.specs.Causes.{HasCause, Rose};
+ghost use Rattle.hl_script.specs.Input.{is_newline, IsReady, Gives, passes_limit, Cuts, IsTooLong, longest, most_held};
 
 use crate::buffer::Buffer;
 use crate::fault::LineFault;
 use crate::find::first_place;
-use hl_media::Source;
+use hl_media::{Failed, Source};
 use std::alloc::{AllocError, Global};
 use std::marker::Model;
 
@@ -49,7 +49,8 @@ impl Lines {
 
     /// Puts the next line, without its newline, in place of what `out` holds; false, with nothing in `out`, at the end.
     /// A line of more than 140,000 bytes, or one that ends with its newline past the limit, is too long.
-    /// An `Err` leaves `out` as it was, and what is left of the input.
+    /// An `Err` leaves `out` as it was, and what is left of the input. All memory is taken before the first read, so want
+    /// of it leaves the source and what is held of it too.
     pub fn next<S: Source>(
         &mut self,
         _alloc: Global,
@@ -75,13 +76,16 @@ impl Lines {
         ensures kept { OnErr result (Keeps (prepend_known self.old.held (S.left source.old)) (prepend_known self.new.held (S.left source.new))) }
         ensures unused { OnErr result (self.new.used ≡ self.old.used) }
         ensures out { OnErr result (out.new.items ≡ out.old.items) }
+        // Want of memory changes nothing, whatever the source tells.
+        ensures memory { result ≡ Err LineFault.Memory → self.new ≡ self.old }
+        ensures unread { result ≡ Err LineFault.Memory → source.new ≡ source.old }
     {
-        self.refill(source)?;
+        self.refill(source, out)?;
         self.take(out)
     }
 
-    /// Reads until the next line is held, or shows that it is too long.
-    fn refill<S: Source>(&mut self, source: &mut S) -> Result<(), LineFault>
+    /// Reads until the next line is held, or shows that it is too long. Where it reads, it takes room for any line first.
+    fn refill<S: Source>(&mut self, source: &mut S, out: &mut Vec<u8>) -> Result<(), LineFault>
         ensures bounded { length self.new.held ≤ most_held }
         ensures ready { OnOk result (IsReady self.new.held (S.left source.new)) }
         ensures same { Keeps (prepend_known self.old.held (S.left source.old)) (prepend_known self.new.held (S.left source.new)) }
@@ -91,12 +95,19 @@ impl Lines {
         ensures input { result ≡ Err LineFault.Input → Rose (S.faults source.old) (S.faults source.new) }
         ensures quiet { OnOk result (S.faults source.new ≡ S.faults source.old) }
         ensures others { result ≡ Err LineFault.TooLong → ⊥ }
+        ensures memory { result ≡ Err LineFault.Memory → (self.new ≡ self.old) × (source.new ≡ source.old) }
+        ensures room { vec_capacity out.new < longest → (self.new ≡ self.old) × (source.new ≡ source.old) }
+        ensures out { out.new.items ≡ out.old.items }
     {
         let held = self.buffer.held();
         if first_place(b'\n', held) < held.len() {
             return Ok(());
         }
-        fill(&mut self.buffer, source)
+        make_room(out)?;
+        match fill(&mut self.buffer, source) {
+            Ok(()) => Ok(()),
+            Err(Failed) => Err(LineFault::Input),
+        }
     }
 
     /// Takes the next line off what is held.
@@ -109,6 +120,7 @@ impl Lines {
         ensures too_long { result ≡ Err LineFault.TooLong → passes_limit self.old.limit self.old.used self.old.held ≡ true }
         ensures others { result ≡ Err LineFault.Input → ⊥ }
         ensures err { OnErr result (self.new ≡ self.old) }
+        ensures memory { result ≡ Err LineFault.Memory → vec_capacity out.old < longest }
         ensures out { OnErr result (out.new.items ≡ out.old.items) }
     {
         let held = self.buffer.held();
@@ -128,15 +140,12 @@ impl Lines {
 }
 
 /// Reads until a line is held, or the front of one that is too long, or all that is left.
-fn fill<S: Source>(held: &mut Buffer, source: &mut S) -> Result<(), LineFault>
+fn fill<S: Source>(held: &mut Buffer, source: &mut S) -> Result<(), Failed>
     requires { position_or_len is_newline held.old ≡ length held.old }
     ensures bounded { length held.new ≤ most_held }
     ensures ready { OnOk result (IsReady held.new (S.left source.new)) }
     ensures same { Keeps (prepend_known held.old (S.left source.old)) (prepend_known held.new (S.left source.new)) }
-    ensures later { S.faults source.old ≤ S.faults source.new }
-    ensures input { result ≡ Err LineFault.Input → Rose (S.faults source.old) (S.faults source.new) }
-    ensures quiet { OnOk result (S.faults source.new ≡ S.faults source.old) }
-    ensures others { result ≡ Err LineFault.TooLong → ⊥ }
+    ensures faults { HasCause (S.faults source.old) (S.faults source.new) result }
 {
     let mut before = held.held().len();
     'reads: while before <= LONGEST {
@@ -153,10 +162,19 @@ fn fill<S: Source>(held: &mut Buffer, source: &mut S) -> Result<(), LineFault>
     Ok(())
 }
 
-/// Puts these bytes in place of those that `out` holds.
+/// Makes room for any line.
+fn make_room(out: &mut Vec<u8>) -> Result<(), AllocError>
+    ensures ok { OnOk result (longest ≤ vec_capacity out.new) }
+    ensures items { out.new.items ≡ out.old.items }
+{
+    out.reserve(LONGEST.saturating_sub(out.len()))
+}
+
+/// Puts these bytes in place of those that `out` holds. It takes memory only where these are longer than its room.
 fn replace(out: &mut Vec<u8>, bytes: &[u8]) -> Result<(), AllocError>
     ensures ok { OnOk result (out.new.items ≡ bytes.now) }
     ensures err { OnErr result (out.new.items ≡ out.old.items) }
+    ensures memory { OnErr result (vec_capacity out.old < length bytes.now) }
 {
     out.reserve(bytes.len().saturating_sub(out.len()))?;
     out.clear();

@@ -3,14 +3,19 @@ use Rattle.std.proofs.Common.{◌≡◌, ℕ, ◌+◌, ◌*◌, ◌≤◌, List,
 use Rattle.std.proofs.lemmas.List.{take_at, take-take, take_all}
 use Rattle.std.proofs.lemmas.Slice.{take-put_mid, drop-put_mid}
 use borrow.Rule.Slice.PartMut.{put_mid}
-use Rattle.hl_addr.specs.Layout.{Layout}
 use Rattle.hl_bytes.specs.Pages.{page_over}
 use Rattle.hl_bytes.specs.Buffers.{part_of}
 use Rattle.hl_bytes.specs.declared.records.BlockRecord.{BlockRecord}
 use Rattle.hl_bytes.proofs.PageLemmas.{take-page_over, drop-page_over}
+use Rattle.hl_bytes.specs.declared.records.TableRecord.{TableRecord}
+use Rattle.hl_summary.specs.declared.parts.Heading.{Heading}
 use Rattle.hl_summary.specs.declared.parts.Summary.{Summary}
-use Rattle.hl_summary.specs.Parts.{HasRoom, IsSummary, Spells, part_bytes, summary_fields}
+use Rattle.hl_summary.specs.Parts.{Checks, HasFitting, HasRoom, part_bytes, summary_fields, with_records}
 use Rattle.hl_summary.proofs.SummaryLemmas.{length-fields, whole_is, behind_is}
+
+-- the summary of its own heading and records
+pub same_summary : (s : Summary) (h : Heading) (blocks : List BlockRecord) (tables : List TableRecord) → blocks ≡ s.blocks → tables ≡ s.tables → with_records h s.blocks s.tables ≡ s → with_records h blocks tables ≡ s
+same_summary s h blocks tables blocks_are tables_are is = ap (λ (l : List BlockRecord). with_records h l tables) blocks_are ∙ ap (λ (l : List TableRecord). with_records h s.blocks l) tables_are ∙ is
 
 -- the summary and a block for each record
 pub whole_by : (s : Summary) (part : List ℕ) (records : List BlockRecord) → records ≡ s.blocks → take (4096 * (1 + length records)) part ≡ take (4096 * (1 + length s.blocks)) part
@@ -57,15 +62,22 @@ sealed s old first new end room size one is_end fields is =
     let rest : drop 4096 old ≡ part_of old 1 n = ap (drop 4096) (sym (take_all (4096 * (1 + n)) old (omega (arith, size)))) ∙ behind_is old n in
     is ∙ ap (λ (l : List ℕ). page_over l (drop 4096 (put_mid 0 4096 old first))) head ∙ ap (λ (l : List ℕ). page_over (summary_fields s) l) (back ∙ rest)
 
--- a sealed part checks where its summary may stand, whatever is behind it
-pub sealed_spells : (s : Summary) (new behind : List ℕ) → HasRoom s → length new ≡ 4096 * (1 + length s.blocks) → new ≡ part_bytes s behind → (g : Layout) (seg block : ℕ) (rest : List ℕ) → IsSummary g seg block s → Spells g seg block s.serial (new ++ rest) s
-sealed_spells s new behind room size is g seg block rest ok =
+-- a sealed part checks where its fields are in their ranges
+pub sealed_spells : (s : Summary) (new behind : List ℕ) → HasRoom s → length new ≡ 4096 * (1 + length s.blocks) → new ≡ part_bytes s behind → HasFitting s → Checks s new
+sealed_spells s new behind room size is fitting g seg block rest ranges =
     let n = length s.blocks in
     let le : length (summary_fields s) ≤ 4064 = omega (arith, length-fields s room, room.tables) in
     let whole : take (4096 * (1 + n)) (new ++ rest) ≡ new = take_at new rest (4096 * (1 + n)) size in
     let back : part_of (new ++ rest) 1 n ≡ behind = sym (behind_is (new ++ rest) n) ∙ ap (drop 4096) whole ∙ drop-page_over new (summary_fields s) behind is le in
     record {
-      value = ok;
+      value = record {
+        ranges = ranges;
+        serial_fits = fitting.serial;
+        seg_fits = fitting.seg;
+        block_fits = fitting.block;
+        blocks_fit = fitting.blocks;
+        tables_fit = fitting.tables;
+      };
       serial_is = refl;
       bytes = whole_is (new ++ rest) n ∙ whole ∙ is ∙ ap (λ (l : List ℕ). page_over (summary_fields s) l) (sym back);
     }

@@ -7,6 +7,9 @@ use Rattle.hl_bytes.specs.Records.{IsBlockRecord, IsTableRecord, block_records_b
 use Rattle.hl_bytes.specs.Pages.{page_over}
 use Rattle.hl_bytes.specs.Buffers.{part_of}
 use Rattle.hl_summary.specs.Ranges.{IsPlace, IsNextPlace, IsBlockOf, IsChangeOf}
+use Rattle.hl_bytes.specs.declared.records.BlockRecord.{BlockRecord}
+use Rattle.hl_bytes.specs.declared.records.TableRecord.{TableRecord}
+use Rattle.hl_summary.specs.declared.parts.Heading.{Heading}
 use Rattle.hl_summary.specs.declared.parts.Summary.{Summary}
 
 -- the records have room in the summary
@@ -31,6 +34,25 @@ pub record IsSummary (g : Layout) (seg block : ℕ) (s : Summary) : Type 0 where
   pub block_fits : s.next_block < 2 ^ 32
   pub blocks_fit : AllByRecursion IsBlockRecord s.blocks
   pub tables_fit : AllByRecursion IsTableRecord s.tables
+
+-- the summary of this heading that has these records
+abbrev pub with_records : Heading → List BlockRecord → List TableRecord → Summary
+with_records h blocks tables = record {
+  serial = h.serial;
+  next_seg = h.next_seg;
+  next_block = h.next_block;
+  ends = h.ends;
+  blocks = blocks;
+  tables = tables;
+}
+
+-- its numbers have room in their fields
+pub record HasFitting (s : Summary) : Type 0 where
+  pub serial : s.serial < 2 ^ 64
+  pub seg : s.next_seg < 2 ^ 32
+  pub block : s.next_block < 2 ^ 32
+  pub blocks : AllByRecursion IsBlockRecord s.blocks
+  pub tables : AllByRecursion IsTableRecord s.tables
 
 -- the bytes `HLPART01`
 abbrev pub magic : List ℕ
@@ -57,12 +79,20 @@ summary_fields s = summary_middle s ++ table_records_bytes s.tables
 abbrev pub part_bytes : Summary → List ℕ → List ℕ
 part_bytes s behind = page_over (summary_fields s) behind
 
+-- the bytes begin with the part that the summary spells over the blocks behind it
+abbrev pub IsSpelled : Summary → List ℕ → Type 0
+IsSpelled s part = part_of part 0 (1 + length s.blocks) ≡ part_bytes s (part_of part 1 (length s.blocks))
+
 -- the bytes from the place to the segment's end begin with the part that the summary spells over
 -- the blocks behind it, and it has the serial
 pub record Spells (g : Layout) (seg block serial : ℕ) (part : List ℕ) (s : Summary) : Type 0 where
   pub value : IsSummary g seg block s
   pub serial_is : s.serial ≡ serial
-  pub bytes : part_of part 0 (1 + length s.blocks) ≡ part_bytes s (part_of part 1 (length s.blocks))
+  pub bytes : IsSpelled s part
+
+-- whatever is behind the part, it checks at each place where the summary's fields are in their ranges
+abbrev pub Checks : Summary → List ℕ → Type 0
+Checks s part = (g : Layout) (seg block : ℕ) (rest : List ℕ) → HasRanges g seg block s → Spells g seg block s.serial (part ++ rest) s
 
 -- the candidate: what stands at the fields' places; of each kind of records at most as many as
 -- have room

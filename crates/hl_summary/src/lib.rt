@@ -5,7 +5,8 @@
 mod parts;
 mod ranges;
 
-pub use parts::{Summary, check, seal};
+pub use parts::{BLOCKS_MAX, Heading, Summary, TABLES_MAX, check, seal, seal_with};
+pub use ranges::{DATA_MAX, INODE, POINTERS, TABLE};
 
 #[cfg(test)]
 mod tests;

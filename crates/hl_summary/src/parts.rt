@@ -3,7 +3,7 @@
 ghost use Rattle.std.specs.Prelude.{◌≡◌, ◌≤◌, ◌+◌, ◌-◌, ◌*◌, ◌++◌, ◌↔◌, ℕ, List as Items, Some, IsNone, IsTrue, IfOk, length, take};
 ghost use Rattle.hl_addr.specs.Layout.{Layout};
 ghost use Rattle.hl_bytes.specs.Buffers.{part_of};
-ghost use Rattle.hl_summary.specs.Parts.{HasRanges, HasRoom, IsSummary, Spells, ends_code, ends_of, part_bytes, summary_fields, summary_in};
+ghost use Rattle.hl_summary.specs.Parts.{Checks, HasFitting, HasRanges, HasRoom, IsSpelled, Spells, ends_code, ends_of, part_bytes, summary_fields, summary_in, with_records};
 
 use crate::ranges::{are_blocks_of, are_changes_of, is_next_place, is_place};
 use hl_addr::Geometry;
@@ -26,19 +26,31 @@ pub struct Summary {
     pub next_block: u32,
     /// Whether the part is the last one of its unit.
     pub ends: bool,
-    /// Which blocks stand behind the summary, in their order, at most 240.
+    /// Which blocks stand behind the summary, in their order, at most `BLOCKS_MAX`.
     pub blocks: List<BlockRecord>,
-    /// The changes of the tables, in their order, at most 80.
+    /// The changes of the tables, in their order, at most `TABLES_MAX`.
     pub tables: List<TableRecord>,
+}
+
+/// What a summary says besides its records.
+#[derive(Clone, Copy)]
+pub struct Heading {
+    pub serial: u64,
+    pub next_seg: u32,
+    pub next_block: u32,
+    pub ends: bool,
 }
 
 const MAGIC: [u8; 8] = *b"HLPART01";
 
-/// The most block records that have room in a summary.
-const BLOCKS_MAX: u32 = 240;
+/// The most block records that have room in a summary, and so the most blocks of a part.
+pub const BLOCKS_MAX: usize = 240;
 
 /// The most table records that have room in a summary.
-const TABLES_MAX: u32 = 80;
+pub const TABLES_MAX: usize = 80;
+
+/// Where the block records begin.
+const BLOCKS_AT: usize = 40;
 
 /// Where the table records begin.
 const TABLES_AT: usize = 1_960;
@@ -49,47 +61,70 @@ fn ends_code(ends: bool) -> u32
     if ends { 1 } else { 0 }
 }
 
-/// Where the fields of a summary end.
-fn fields_end(summary: &Summary) -> usize
-    requires { HasRoom summary.now }
-    ensures { result ≡ 1960 + 24 * length summary.now.tables }
-{
-    TABLES_AT + 24 * summary.tables.items().len()
-}
-
 /// Writes the fields of a summary.
 #[tactic(auto, unfolding(crate::specs::Parts::summary_fields))]
-fn put_fields(summary: &Summary, out: &mut [u8])
-    requires room { HasRoom summary.now }
+fn put_fields(heading: Heading, blocks: &[BlockRecord], tables: &[TableRecord], out: &mut [u8])
+    requires room { HasRoom (with_records heading blocks.now tables.now) }
     requires size { length out.old ≡ 4096 }
-    ensures { take (1960 + 24 * length summary.now.tables) out.new ≡ summary_fields summary.now }
+    ensures fields { let s = with_records heading blocks.now tables.now in
+        take (1960 + 24 * length tables.now) out.new ≡ summary_fields s }
+    ensures fitting { HasFitting (with_records heading blocks.now tables.now) }
 {
-    let blocks = summary.blocks.items();
-    let tables = summary.tables.items();
     put_bytes(out, 0, &MAGIC);
-    put_u64(out, 8, summary.serial);
-    put_u32(out, 16, summary.next_seg);
-    put_u32(out, 20, summary.next_block);
-    put_u32(out, 24, ends_code(summary.ends));
+    put_u64(out, 8, heading.serial);
+    put_u32(out, 16, heading.next_seg);
+    put_u32(out, 20, heading.next_block);
+    put_u32(out, 24, ends_code(heading.ends));
     put_u32(out, 28, blocks.len() as u32);
     put_u32(out, 32, tables.len() as u32);
-    put_zeros(out, 36, 40);
-    put_block_records(out, 40, blocks);
-    put_zeros(out, 40 + 8 * blocks.len(), TABLES_AT);
+    put_zeros(out, 36, BLOCKS_AT);
+    put_block_records(out, BLOCKS_AT, blocks);
+    put_zeros(out, BLOCKS_AT + 8 * blocks.len(), TABLES_AT);
     put_table_records(out, TABLES_AT, tables);
 }
 
-/// Writes a summary over the first block of a part whose other blocks are in place, one for each
-/// block record, with the digest of them all. Its records have room in the summary; where it is the
-/// summary of a part at a place on a site, the part checks there.
+/// Writes the summary of this heading and these records over the first block of a part whose other
+/// blocks are in place, one for each block record, with the digest of them all. The records have
+/// room in a summary; where it is the summary of a part at a place on a site, the part checks there.
+/// It takes no memory.
+pub fn seal_with(heading: Heading, blocks: &[BlockRecord], tables: &[TableRecord], part: &mut [u8])
+    requires room { HasRoom (with_records heading blocks.now tables.now) }
+    requires size { length part.old ≡ 4096 * (1 + length blocks.now) }
+    ensures bytes { let s = with_records heading blocks.now tables.now in
+        part.new ≡ part_bytes s (part_of part.old 1 (length blocks.now)) }
+    ensures checks { Checks (with_records heading blocks.now tables.now) part.new }
+{
+    put_fields(heading, blocks, tables, &mut part[..BLOCK]);
+    end_page_over(part, TABLES_AT + 24 * tables.len());
+}
+
+/// What a summary says besides its records.
+fn heading_of(summary: &Summary) -> Heading
+    ensures { with_records result summary.now.blocks summary.now.tables ≡ summary.now }
+{
+    Heading {
+        serial: summary.serial,
+        next_seg: summary.next_seg,
+        next_block: summary.next_block,
+        ends: summary.ends,
+    }
+}
+
+/// Seals a part with a summary, as `seal_with` does.
 pub fn seal(summary: &Summary, part: &mut [u8])
     requires room { HasRoom summary.now }
     requires size { length part.old ≡ 4096 * (1 + length summary.now.blocks) }
-    ensures bytes { part.new ≡ part_bytes summary.now (part_of part.old 1 (length summary.now.blocks)) }
-    ensures spelled { (g : Layout) (seg block : ℕ) (rest : Items ℕ) → IsSummary g seg block summary.now → Spells g seg block summary.now.serial (part.new ++ rest) summary.now }
+    ensures bytes { let behind = part_of part.old 1 (length summary.now.blocks) in
+        part.new ≡ part_bytes summary.now behind }
+    ensures checks { Checks summary.now part.new }
 {
-    put_fields(summary, &mut part[..BLOCK]);
-    end_page_over(part, fields_end(summary));
+    let heading = heading_of(summary);
+    seal_with(
+        heading,
+        summary.blocks.items(),
+        summary.tables.items(),
+        part,
+    );
 }
 
 /// What stands at the fields' places; of each kind of records at most as many as have room.
@@ -98,14 +133,14 @@ fn summary_in(alloc: Global, part: &[u8]) -> Result<Summary, AllocError>
     requires { 4096 ≤ length part.now }
     ensures { IfOk result (λ s. s ≡ summary_in part.now) }
 {
-    let blocks = get_u32(part, 28).min(BLOCKS_MAX) as usize;
-    let tables = get_u32(part, 32).min(TABLES_MAX) as usize;
+    let blocks = (get_u32(part, 28) as usize).min(BLOCKS_MAX);
+    let tables = (get_u32(part, 32) as usize).min(TABLES_MAX);
     Ok(Summary {
         serial: get_u64(part, 8),
         next_seg: get_u32(part, 16),
         next_block: get_u32(part, 20),
         ends: get_u32(part, 24) == 1,
-        blocks: List::of(get_block_records(alloc, part, 40, blocks)?),
+        blocks: List::of(get_block_records(alloc, part, BLOCKS_AT, blocks)?),
         tables: List::of(get_table_records(alloc, part, TABLES_AT, tables)?),
     })
 }
@@ -140,12 +175,14 @@ fn has_ranges(summary: &Summary, seg: u32, block: u32, geometry: &Geometry) -> b
 fn is_spelled(summary: &Summary, part: &[u8]) -> bool
     requires room { HasRoom summary.now }
     requires size { 4096 * (1 + length summary.now.blocks) ≤ length part.now }
-    ensures { IsTrue result ↔ (part_of part.now 0 (1 + length summary.now.blocks) ≡ part_bytes summary.now (part_of part.now 1 (length summary.now.blocks))) }
+    ensures { IsTrue result ↔ IsSpelled summary.now part.now }
 {
-    let end = fields_end(summary);
+    let blocks = summary.blocks.items();
+    let tables = summary.tables.items();
+    let end = TABLES_AT + 24 * tables.len();
     let mut own = [0; BLOCK];
-    put_fields(summary, &mut own);
-    let whole = &part[..BLOCK * (1 + summary.blocks.items().len())];
+    put_fields(heading_of(summary), blocks, tables, &mut own);
+    let whole = &part[..BLOCK * (1 + blocks.len())];
     has_bytes(whole, 0, &own[..end]) && is_page_over(whole, end)
 }
 
@@ -161,7 +198,8 @@ fn is_part(
 ) -> bool
     requires room { HasRoom summary.now }
     requires size { length part.now ≡ 4096 * (geometry.now.k - block) }
-    ensures { IsTrue result ↔ (HasRanges geometry.now seg block summary.now × (summary.now.serial ≡ serial) × (part_of part.now 0 (1 + length summary.now.blocks) ≡ part_bytes summary.now (part_of part.now 1 (length summary.now.blocks)))) }
+    ensures { let s = summary.now in
+        IsTrue result ↔ (HasRanges geometry.now seg block s × (s.serial ≡ serial) × IsSpelled s part.now) }
 {
     has_ranges(summary, seg, block, geometry)
         && summary.serial == serial
@@ -179,8 +217,10 @@ pub fn check(
     geometry: &Geometry,
 ) -> Result<Option<Summary>, AllocError>
     requires { length part.now ≡ 4096 * (geometry.now.k - block) }
-    ensures found { IfOk result (λ r. (v : Summary) → (r ≡ Some v) ↔ Spells geometry.now seg block serial part.now v) }
-    ensures none { IfOk result (λ r. IsNone r ↔ ((v : Summary) → ¬ Spells geometry.now seg block serial part.now v)) }
+    ensures found { let Is = Spells geometry.now seg block serial part.now in
+        IfOk result (λ r. (v : Summary) → (r ≡ Some v) ↔ Is v) }
+    ensures none { let Is = Spells geometry.now seg block serial part.now in
+        IfOk result (λ r. IsNone r ↔ ((v : Summary) → ¬ Is v)) }
 {
     if !is_place(seg, block, geometry) {
         return Ok(None);

@@ -7,16 +7,16 @@ use hl_addr::Geometry;
 use hl_bytes::{BlockRecord, TableRecord};
 
 /// The greatest index of a data block.
-const DATA_MAX: u32 = 1_035;
+pub const DATA_MAX: u32 = 1_035;
 
 /// The index that stands for a table block.
-const TABLE: u32 = 4_294_967_293;
+pub const TABLE: u32 = 4_294_967_293;
 
 /// The index that stands for the pointer block of an inode.
-const POINTERS: u32 = 4_294_967_294;
+pub const POINTERS: u32 = 4_294_967_294;
 
 /// The index that stands for the block of an inode.
-const INODE: u32 = 4_294_967_295;
+pub const INODE: u32 = 4_294_967_295;
 
 /// Whether a part may begin at the place.
 pub(crate) fn is_place(seg: u32, block: u32, geometry: &Geometry) -> bool

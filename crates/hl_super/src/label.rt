@@ -1,6 +1,6 @@
 //! The label, which is the disk's first block.
 
-ghost use Rattle.std.specs.Prelude.{◌≡◌, ◌≤◌, ◌+◌, ◌*◌, ◌↔◌, Some, IsNone, IsTrue, length};
+ghost use Rattle.std.specs.Prelude.{◌≡◌, ◌≤◌, ◌+◌, ◌*◌, ◌↔◌, ℕ, Some, IsNone, IsTrue, length};
 ghost use Rattle.hl_super.specs.Labels.{IsLabel, Spells, label_bytes, label_in};
 
 use hl_bytes::{BLOCK, end_page, get_u32, put_bytes, put_u32};
@@ -39,13 +39,15 @@ fn put_label(label: &Label, out: &mut [u8])
 pub fn encode_label(label: &Label, out: &mut [u8])
     requires limits { IsLabel label.now }
     requires size { length out.old ≡ 4096 }
-    ensures { out.new ≡ label_bytes label.now }
+    ensures bytes { out.new ≡ label_bytes label.now }
+    ensures spelled { (blocks : ℕ) → (1 + label.now.log + label.now.lines) * label.now.k ≤ blocks
+        → Spells blocks out.new label.now }
 {
     put_label(label, out);
 }
 
 /// Whether the numbers are within the limits.
-pub(crate) fn is_label(label: &Label) -> bool
+fn is_label(label: &Label) -> bool
     ensures { IsTrue result ↔ IsLabel label.now }
 {
     matches!(label.k, 64 | 128 | 256 | 512)

@@ -1,14 +1,16 @@
 //! A checkpoint record, which is the disk's block 1 or 2.
 
-ghost use Rattle.std.specs.Prelude.{◌≡◌, ◌≤◌, ◌<◌, ◌+◌, ◌-◌, ◌*◌, ◌/◌, ◌%◌, ◌↔◌, Some, IsNone, IsTrue, IfOk, All, length};
-ghost use Rattle.hl_addr.specs.Layout.{IsSlotCount, IsVolumeCount, IsWithinLimits, table_blocks};
-ghost use Rattle.hl_bytes.specs.Runs.{u32s_at};
+ghost use Rattle.std.specs.Prelude.{◌≡◌, ◌≤◌, ◌<◌, ◌+◌, ◌-◌, ◌*◌, ◌/◌, ◌%◌, ◌^◌, ◌++◌, ◌↔◌, ℕ, Some, IsNone, IsTrue, IfOk, length, take};
+ghost use Rattle.hl_addr.specs.Layout.{IsWithinLimits, table_blocks};
+ghost use Rattle.std.specs.List.{AllByRecursion};
+ghost use Rattle.hl_bytes.specs.Runs.{numbers32, u32s_at};
 ghost use Rattle.hl_super.specs.Labels.{IsLabel, layout_of};
+ghost use Rattle.hl_super.specs.declared.label.Label.{Label};
 ghost use Rattle.hl_super.specs.Newest.{newest};
 ghost use Rattle.hl_super.specs.Records.{HasRanges, HasRoom, IsRecord, Spells, record_bytes, record_in};
 
-use crate::label::{Label, is_label};
-use hl_addr::{Numbers, table_blocks_for};
+use crate::label::Label;
+use hl_addr::{Numbers, is_within_limits, table_blocks_for};
 use hl_bytes::{
     BLOCK, end_page, get_numbers, get_u32, get_u64, put_bytes, put_numbers, put_u32, put_u64,
     put_zeros,
@@ -44,13 +46,24 @@ const VOLUMES_MAX: u32 = 32;
 /// The most table blocks of a site, which is half of the longest segment.
 const TABLES_MAX: u32 = 256;
 
-/// Writes the one spelling of a record over a block. Its lists have room there; where the record is
-/// one of a label, its block is read as this record under that label.
+/// Writes numbers in a row, from `at` on.
+fn put_list(out: &mut [u8], at: usize, numbers: &[u32])
+    requires { at + 4 * length numbers.now ≤ length out.old }
+    ensures front { take (at + 4 * length numbers.now) out.new ≡ take at out.old ++ numbers32 numbers.now }
+    ensures size { length out.new ≡ length out.old }
+    ensures fit { AllByRecursion (λ n. n < 2 ^ 32) numbers.now }
+{
+    put_numbers(out, at, numbers);
+}
+
+/// Writes the fields, zeros behind them, and the digest.
 #[tactic(auto, unfolding(crate::specs::Records::record_bytes))]
-pub fn encode_record(rec: &Record, out: &mut [u8])
+fn put_record(rec: &Record, out: &mut [u8])
     requires room { HasRoom rec.now }
     requires size { length out.old ≡ 4096 }
     ensures bytes { out.new ≡ record_bytes rec.now }
+    ensures value { (at : ℕ) (label : Label) → HasRanges at label rec.now
+        → IsRecord at label rec.now }
 {
     let volumes = rec.volumes.items();
     let tables = rec.tables.items();
@@ -62,11 +75,23 @@ pub fn encode_record(rec: &Record, out: &mut [u8])
     put_u64(out, 32, rec.tseg_serial);
     put_u32(out, 40, rec.format);
     put_u32(out, 44, volumes.len() as u32);
-    put_numbers(out, 48, volumes);
+    put_list(out, 48, volumes);
     put_zeros(out, 48 + 4 * volumes.len(), 176);
     put_u32(out, 176, tables.len() as u32);
-    put_numbers(out, 180, tables);
+    put_list(out, 180, tables);
     end_page(out, 180 + 4 * tables.len());
+}
+
+/// Writes the one spelling of a record over a block. Its lists have room there; where the record is
+/// one of a label, its block is read as this record under that label.
+pub fn encode_record(rec: &Record, out: &mut [u8])
+    requires room { HasRoom rec.now }
+    requires size { length out.old ≡ 4096 }
+    ensures bytes { out.new ≡ record_bytes rec.now }
+    ensures spelled { (at : ℕ) (label : Label) → HasRanges at label rec.now
+        → Spells at label out.new rec.now }
+{
+    put_record(rec, out);
 }
 
 /// The numbers from a place on.
@@ -109,28 +134,12 @@ fn record_in(alloc: Global, block: &[u8]) -> Result<Record, AllocError>
     })
 }
 
-/// Whether each volume has a number of slots within the limits.
-fn are_slot_counts(volumes: &[u32]) -> bool
-    ensures { IsTrue result ↔ All IsSlotCount volumes.now }
-{
-    volumes.iter().all(|slots| 1 <= *slots && *slots <= 4096)
-}
-
-/// Whether a rack may have these volumes.
-fn are_volumes(volumes: &[u32]) -> bool
-    ensures { IsTrue result ↔ (IsVolumeCount (length volumes.now) × All IsSlotCount volumes.now) }
-{
-    1 <= volumes.len() && volumes.len() <= 32 && are_slot_counts(volumes)
-}
-
 /// Whether the label and these volumes make a site within the limits, whose tables fill so many
 /// blocks.
 fn is_site(label: &Label, volumes: &[u32], tables: usize) -> bool
     ensures { IsTrue result ↔ (IsWithinLimits (layout_of label.now volumes.now) × (tables ≡ table_blocks (layout_of label.now volumes.now))) }
 {
-    is_label(label)
-        && are_volumes(volumes)
-        && table_blocks_for(label.log, label.inodes, volumes) <= label.k / 2
+    is_within_limits(label.k, label.log, label.lines, label.inodes, volumes)
         && tables == table_blocks_for(label.log, label.inodes, volumes) as usize
 }
 
@@ -162,7 +171,7 @@ fn is_spelled(rec: &Record, at: u32, label: &Label, block: &[u8]) -> bool
     ensures { IsTrue result ↔ (HasRanges at label.now rec.now × (block.now ≡ record_bytes rec.now)) }
 {
     let mut own = [0; BLOCK];
-    encode_record(rec, &mut own);
+    put_record(rec, &mut own);
     has_ranges(rec, at, label) && block == own.as_slice()
 }
 

@@ -4,3 +4,4 @@ pub mod EntryBlocks
 pub mod BlockPlaces
 pub mod ReadBlocks
 pub mod TablesRead
+pub mod TableSpelling

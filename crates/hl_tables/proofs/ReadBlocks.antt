@@ -1,81 +1,55 @@
 -- Blocks of entries that are read.
-use Rattle.std.proofs.Common.{◌≡◌, ℕ, ◌+◌, ◌-◌, ◌*◌, ◌<◌, ◌≤◌, ◌^◌, ◌==◌, min, Bool, true, false, List, [], ◌∷◌, ◌++◌, length, take, drop, inl, inr, refl, sym, ap, ◌∙◌, arith, lit≤, lit<, append_assoc, length-append, length-drop}
+use Rattle.std.proofs.Common.{◌≡◌, ℕ, ◌+◌, ◌-◌, ◌*◌, ◌<◌, ◌≤◌, min, Bool, List, [], ◌∷◌, ◌++◌, length, take, drop, inl, inr, refl, sym, ap, ◌∙◌, arith, lit≤, append_assoc, length-append, length-drop}
 use Rattle.std.specs.Int.{div_ceil}
 use Rattle.std.proofs.Math.Nat.{mul-suc}
-use Rattle.std.proofs.Math.Seq.{take-add}
 use Rattle.std.proofs.lemmas.Bool.{cases_lt}
 use Rattle.std.proofs.lemmas.Nat.{mul-le}
-use Rattle.std.proofs.lemmas.List.{take_at, drop_at, drop_all, append-nil, take-take, take-append-le, drop-append-le, drop-take, drop-drop, take_min, append_cancel_left, length-take-le}
+use Rattle.std.proofs.lemmas.List.{take_at, drop_at, drop_all, append-nil, take-take, take-append-le, drop-append-le, drop-take, drop-drop, take_min, length-take-le}
 use borrow.Rule.Slice.PartMut.{put_mid}
 use Rattle.hl_bytes.specs.Fields.{le32, le64, u32_at, u64_at, zeros, written}
 use Rattle.hl_bytes.specs.Runs.{run_bytes, run_at}
 use Rattle.hl_bytes.specs.Pages.{padded, plain_page}
 use Rattle.hl_bytes.specs.Buffers.{block_of}
-use Rattle.hl_bytes.proofs.Places.{IsBytes, front32, front64, back32}
-use Rattle.hl_bytes.proofs.Decoding.{part_front}
+use Rattle.hl_bytes.proofs.Places.{IsBytes, respelled32, respelled64, back32}
+use Rattle.hl_bytes.proofs.Decoding.{inside}
 use Rattle.hl_bytes.proofs.PageLemmas.{take-plain_page, length-padded, length-zeros}
 use Rattle.hl_bytes.proofs.RunLemmas.{run_bytes-append, length-run_bytes}
 use Rattle.hl_tseg.specs.SlotTable.{with_run}
 use Rattle.hl_tseg.specs.declared.slot.Slot.{Slot}
 use Rattle.hl_tseg.specs.declared.slot.Slot.TheVariants.{Free, Staged, Home, Spoilt}
-use Rattle.hl_tables.specs.Entries.{flag_code, flag_bytes, flag_at, state_of, line_of, serial_of, slot_bytes, slot_of, slot_at}
+use Rattle.hl_tables.specs.Entries.{flag_code, flag_bytes, flag_at, state_field, line_field, serial_field, slot_bytes, slot_in_fields, slot_entry_at}
 use Rattle.hl_tables.specs.TableBlocks.{in_blocks}
+use Rattle.hl_tables.proofs.EntryLemmas.{code_fits, read_flag, state_fits}
 use Rattle.hl_tables.proofs.EntryBlocks.{entry_block, take-run, drop-run}
 
 -- what a write to a part leaves
 pub put_mid_is : {A : Type 0} (xs ys : List A) (at k : ℕ) → length ys ≡ k → put_mid at k xs ys ≡ with_run xs at ys
 put_mid_is xs ys at k size = rw (drop-drop k at xs) (rw size refl)
 
--- bytes that stand at a place are spelled by the number that is read there
-respelled32 : (xs : List ℕ) (at : ℕ) → at + 4 ≤ length xs → IsBytes xs → le32 (u32_at at xs) ≡ take 4 (drop at xs)
-respelled32 xs at le fits = append_cancel_left (take at xs) (le32 (u32_at at xs)) (take 4 (drop at xs)) (sym (front32 xs at (u32_at at xs) le fits refl) ∙ take-add at 4 xs)
-
-respelled64 : (xs : List ℕ) (at : ℕ) → at + 8 ≤ length xs → IsBytes xs → le64 (u64_at at xs) ≡ take 8 (drop at xs)
-respelled64 xs at le fits = append_cancel_left (take at xs) (le64 (u64_at at xs)) (take 8 (drop at xs)) (sym (front64 xs at (u64_at at xs) le fits refl) ∙ take-add at 8 xs)
-
 -- the same of each kind of entry, where some entry is spelled there
 pub number_again : (bytes : List ℕ) (at n : ℕ) → IsBytes bytes → at + 4 ≤ length bytes → take 4 (drop at bytes) ≡ le32 n → le32 (u32_at at bytes) ≡ le32 n
 number_again bytes at n fits le is = respelled32 bytes at le fits ∙ is
-
-code_fits : (flag : Bool) → flag_code flag < 2 ^ 32
-code_fits true = lit< tt
-code_fits false = lit< tt
-
-read_flag : (n : ℕ) (flag : Bool) → n ≡ flag_code flag → (n == 1) ≡ flag
-read_flag n true is = rw is refl
-read_flag n false is = rw is refl
 
 pub flag_again : (bytes : List ℕ) (at : ℕ) (flag : Bool) → IsBytes bytes → at + 4 ≤ length bytes → take 4 (drop at bytes) ≡ flag_bytes flag → flag_bytes (flag_at at bytes) ≡ flag_bytes flag
 unfolding flag_at flag_bytes
 flag_again bytes at flag fits le is = ap flag_bytes (read_flag (u32_at at bytes) flag (back32 bytes at (flag_code flag) (code_fits flag) is))
 
-state_fits : (slot : Slot) → state_of slot < 2 ^ 32
-state_fits Free = lit< tt
-state_fits (Staged line serial) = lit< tt
-state_fits (Home serial) = lit< tt
-state_fits Spoilt = lit< tt
-
 -- a slot is spelled by its state and by any numbers that are spelled as its own
-slot_again_by : (slot : Slot) (state line serial : ℕ) → state ≡ state_of slot → le32 line ≡ le32 (line_of slot) → le64 serial ≡ le64 (serial_of slot) → slot_bytes (slot_of state line serial) ≡ slot_bytes slot
+slot_again_by : (slot : Slot) (state line serial : ℕ) → state ≡ state_field slot → le32 line ≡ le32 (line_field slot) → le64 serial ≡ le64 (serial_field slot) → slot_bytes (slot_in_fields state line serial) ≡ slot_bytes slot
 unfolding slot_bytes
 slot_again_by Free state line serial is l s = rw is refl
 slot_again_by (Staged line' serial') state line serial is l s = rw (is, l, s) refl
 slot_again_by (Home serial') state line serial is l s = rw (is, s) refl
 slot_again_by Spoilt state line serial is l s = rw is refl
 
--- a part of what stands at a place
-inside : (bytes whole part : List ℕ) (at k n m : ℕ) → take n (drop at bytes) ≡ whole → k + m ≤ n → take m (drop k whole) ≡ part → take m (drop (at + k) bytes) ≡ part
-inside bytes whole part at k n m is le within =
-    ap (take m) (sym (drop-drop k at bytes)) ∙ sym (part_front (drop at bytes) k m n le) ∙ ap (λ (l : List ℕ). take m (drop k l)) is ∙ within
-
-pub slot_again : (bytes : List ℕ) (at : ℕ) (slot : Slot) → IsBytes bytes → at + 16 ≤ length bytes → take 16 (drop at bytes) ≡ slot_bytes slot → slot_bytes (slot_at at bytes) ≡ slot_bytes slot
-unfolding slot_at slot_bytes le32 le64
+pub slot_again : (bytes : List ℕ) (at : ℕ) (slot : Slot) → IsBytes bytes → at + 16 ≤ length bytes → take 16 (drop at bytes) ≡ slot_bytes slot → slot_bytes (slot_entry_at at bytes) ≡ slot_bytes slot
+unfolding slot_entry_at slot_bytes le32 le64
 slot_again bytes at slot fits le is =
-    let state : u32_at at bytes ≡ state_of slot = back32 bytes at (state_of slot) (state_fits slot) (sym (take-take 4 16 (drop at bytes) (lit≤ tt)) ∙ ap (take 4) is) in
-    let line : le32 (u32_at (at + 4) bytes) ≡ le32 (line_of slot) =
-    respelled32 bytes (at + 4) (omega arith) fits ∙ inside bytes (slot_bytes slot) (le32 (line_of slot)) at 4 16 4 is (lit≤ tt) refl in
-    let serial : le64 (u64_at (at + 8) bytes) ≡ le64 (serial_of slot) =
-    respelled64 bytes (at + 8) (omega arith) fits ∙ inside bytes (slot_bytes slot) (le64 (serial_of slot)) at 8 16 8 is (lit≤ tt) refl in
+    let state : u32_at at bytes ≡ state_field slot = back32 bytes at (state_field slot) (state_fits slot) (sym (take-take 4 16 (drop at bytes) (lit≤ tt)) ∙ ap (take 4) is) in
+    let line : le32 (u32_at (at + 4) bytes) ≡ le32 (line_field slot) =
+    respelled32 bytes (at + 4) (omega arith) fits ∙ inside bytes (slot_bytes slot) (le32 (line_field slot)) at 4 16 4 is (lit≤ tt) refl in
+    let serial : le64 (u64_at (at + 8) bytes) ≡ le64 (serial_field slot) =
+    respelled64 bytes (at + 8) (omega arith) fits ∙ inside bytes (slot_bytes slot) (le64 (serial_field slot)) at 8 16 8 is (lit≤ tt) refl in
     slot_again_by slot (u32_at at bytes) (u32_at (at + 4) bytes) (u64_at (at + 8) bytes) state line serial
 
 -- a run that is spelled at a place is spelled by what is read there

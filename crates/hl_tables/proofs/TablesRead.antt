@@ -2,7 +2,7 @@
 use Rattle.std.proofs.Common.{◌≡◌, ◌↔◌, ℕ, ◌+◌, ◌*◌, ◌<◌, ◌≤◌, Bool, true, List, ◌++◌, length, take, drop, IsTrue, refl, sym, ap, ◌∙◌, arith, append_assoc, length-append}
 use Rattle.std.specs.Int.{div_ceil}
 use Rattle.std.proofs.Math.Seq.{take-append-add}
-use Rattle.std.proofs.lemmas.List.{take-append-le, drop-append-le, drop-drop, drop_at}
+use Rattle.std.proofs.lemmas.List.{take_at, take-append-le, drop-append-le, drop-drop, drop_at}
 use Rattle.hl_bytes.specs.Fields.{written}
 use Rattle.hl_bytes.specs.Buffers.{block_of}
 use Rattle.hl_bytes.proofs.RunLemmas.{part-written}
@@ -155,3 +155,7 @@ pub grammar_by : (old new : TableValues) (i : ℕ) (bytes : List ℕ) (r : Bool)
     → ((v : TableValues) → SameShape old v → table_block v i ≡ bytes → r ≡ true)
     → IsTrue r ↔ IsTableBlock old i bytes
 grammar_by old new i bytes r size le shape read owes = (λ t. record { values = new; shape = shape; block = there old new i bytes size le (read t) }, λ b. owes b.values b.shape b.block)
+
+-- a vector that was written whole has what was written
+pub items_written : (ns items : List ℕ) (n : ℕ) → length ns ≡ n → take n (ns ++ drop (length ns) items) ≡ ns
+items_written ns items n size = take_at ns (drop (length ns) items) n size

@@ -1,8 +1,9 @@
 -- The tables as plain lists.
-use Rattle.std.specs.Prelude.{◌≡◌, ℕ, Bool, false, List, length, replicate}
+use Rattle.std.specs.Prelude.{◌≡◌, ℕ, ◌<◌, ◌^◌, Bool, false, List, length, replicate, All}
 use Rattle.hl_addr.specs.Layout.{Layout, IsSegmentSize, IsInodeCount, IsLogCount}
 use Rattle.hl_tseg.specs.SlotTable.{SlotTable}
 use Rattle.hl_tseg.specs.SlotTable as slots
+use Rattle.hl_tseg.specs.Slots.{HasRoom}
 
 -- the blocks of a segment; the address of each inode's block, from number 0 on; whether each log segment is used, from
 -- segment 1 on; and the slots of the volumes
@@ -12,11 +13,12 @@ pub record TableValues : Type 0 where
   pub used : List Bool
   pub slots : SlotTable
 
--- tables of a site within the limits
+-- tables of a site within the limits, whose addresses have room in their entries
 pub record IsWithinLimits (t : TableValues) : Type 0 where
   pub segment_size : IsSegmentSize t.k
   pub inode_count : IsInodeCount (length t.inodes)
   pub log_count : IsLogCount (length t.used)
+  pub addresses : All (λ address. address < 2 ^ 32) t.inodes
 
 -- tables in which nothing is yet: no inode, no used segment, all slots free
 abbrev pub fresh : Layout → TableValues
@@ -30,3 +32,9 @@ pub record SameShape (old new : TableValues) : Type 0 where
   pub volumes : new.slots.volumes ≡ old.slots.volumes
   pub slots : length new.slots.slots ≡ length old.slots.slots
   pub full : length new.slots.full ≡ length old.slots.full
+
+-- tables of the site whose numbers have room in their entries
+pub record AreTables (g : Layout) (t : TableValues) : Type 0 where
+  pub shape : SameShape (fresh g) t
+  pub addresses : All (λ address. address < 2 ^ 32) t.inodes
+  pub room : All HasRoom t.slots.slots

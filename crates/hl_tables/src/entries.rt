@@ -4,7 +4,7 @@ ghost use Rattle.std.specs.Prelude.{◌≡◌, ◌+◌, ◌*◌, ◌<◌, ◌≤
 ghost use Rattle.hl_bytes.specs.Fields.{written};
 ghost use Rattle.hl_bytes.specs.Runs.{run_bytes, numbers32};
 ghost use Rattle.hl_bytes.specs.Buffers.{block_of};
-ghost use Rattle.hl_tables.specs.Entries.{flag_code, flag_bytes, slot_bytes, state_of, line_of, serial_of};
+ghost use Rattle.hl_tables.specs.Entries.{flag_code, flag_bytes, slot_bytes, state_field, line_field, serial_field};
 ghost use Rattle.hl_tables.specs.TableBlocks.{in_blocks};
 
 use hl_bytes::{end_plain_page, put_numbers, put_u32, put_u64};
@@ -16,8 +16,8 @@ fn flag_code(flag: bool) -> u32
     if flag { 1 } else { 0 }
 }
 
-fn state_of(slot: Slot) -> u32
-    ensures { result ≡ state_of slot }
+fn state_field(slot: Slot) -> u32
+    ensures { result ≡ state_field slot }
 {
     match slot {
         Slot::Free => 0,
@@ -27,8 +27,8 @@ fn state_of(slot: Slot) -> u32
     }
 }
 
-fn line_of(slot: Slot) -> u32
-    ensures { result ≡ line_of slot }
+fn line_field(slot: Slot) -> u32
+    ensures { result ≡ line_field slot }
 {
     match slot {
         Slot::Staged { line, .. } => line,
@@ -36,8 +36,8 @@ fn line_of(slot: Slot) -> u32
     }
 }
 
-fn serial_of(slot: Slot) -> u64
-    ensures { result ≡ serial_of slot }
+fn serial_field(slot: Slot) -> u64
+    ensures { result ≡ serial_field slot }
 {
     match slot {
         Slot::Staged { serial, .. } | Slot::Home { serial } => serial,
@@ -50,9 +50,9 @@ fn put_slot(bytes: &mut [u8], at: usize, slot: Slot)
     requires { at + 16 ≤ length bytes.old }
     ensures { bytes.new ≡ written bytes.old at (slot_bytes slot) }
 {
-    put_u32(bytes, at, state_of(slot));
-    put_u32(bytes, at + 4, line_of(slot));
-    put_u64(bytes, at + 8, serial_of(slot));
+    put_u32(bytes, at, state_field(slot));
+    put_u32(bytes, at + 4, line_field(slot));
+    put_u64(bytes, at + 8, serial_field(slot));
 }
 
 /// Writes what slots hold, one after the other, from `at` on.

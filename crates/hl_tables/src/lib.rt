@@ -3,9 +3,11 @@
 #![tactic(auto)]
 
 mod entries;
+mod laws;
 mod reading;
 mod tables;
 
+pub use laws::told_by_blocks;
 pub use tables::Tables;
 
 #[cfg(test)]

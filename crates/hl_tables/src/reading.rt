@@ -1,12 +1,12 @@
 //! Blocks of entries that are read. Each is refused where no entries are spelled by it.
 
-ghost use Rattle.std.specs.Prelude.{◌≡◌, ◌↔◌, ℕ, ◌+◌, ◌*◌, ◌<◌, ◌≤◌, Bool, true, false, List, IsTrue, length};
+ghost use Rattle.std.specs.Prelude.{◌≡◌, ◌↔◌, ℕ, ◌+◌, ◌*◌, ◌<◌, ◌≤◌, ◌^◌, Bool, true, false, List, IsTrue, All, length};
 ghost use Rattle.hl_bytes.specs.Fields.{le32, u32_at, written};
 ghost use Rattle.hl_bytes.specs.Runs.{run_bytes, run_at};
 ghost use Rattle.hl_bytes.specs.Pages.{plain_page};
 ghost use Rattle.hl_bytes.specs.Buffers.{block_of};
 ghost use Rattle.hl_tseg.specs.declared.slot.Slot.{Slot};
-ghost use Rattle.hl_tables.specs.Entries.{flag_bytes, flag_at, slot_bytes, slot_at, slot_of};
+ghost use Rattle.hl_tables.specs.Entries.{flag_bytes, flag_at, slot_bytes, slot_entry_at, slot_in_fields};
 ghost use Rattle.hl_tables.specs.TableBlocks.{in_blocks};
 
 use crate::entries::{put_flags, put_slots};
@@ -22,8 +22,8 @@ fn flag_at(bytes: &[u8], at: usize) -> bool
 }
 
 /// The slot of a state; another state is refused by its spelling.
-fn slot_of(state: u32, line: u32, serial: u64) -> Slot
-    ensures { result ≡ slot_of state line serial }
+fn slot_in_fields(state: u32, line: u32, serial: u64) -> Slot
+    ensures { result ≡ slot_in_fields state line serial }
 {
     match state {
         1 => Slot::Staged { line, serial },
@@ -33,12 +33,12 @@ fn slot_of(state: u32, line: u32, serial: u64) -> Slot
     }
 }
 
-#[tactic(auto, unfolding(crate::specs::Entries::slot_at))]
-fn slot_at(bytes: &[u8], at: usize) -> Slot
+#[tactic(auto, unfolding(crate::specs::Entries::slot_entry_at))]
+fn slot_entry_at(bytes: &[u8], at: usize) -> Slot
     requires { at + 16 ≤ length bytes.now }
-    ensures { result ≡ slot_at at bytes.now }
+    ensures { result ≡ slot_entry_at at bytes.now }
 {
-    slot_of(
+    slot_in_fields(
         get_u32(bytes, at),
         get_u32(bytes, at + 4),
         get_u64(bytes, at + 8),
@@ -56,10 +56,10 @@ fn get_flags(bytes: &[u8], at: usize, out: &mut [bool])
 
 fn get_slots(bytes: &[u8], at: usize, out: &mut [Slot])
     requires { at + 16 * length out.old ≤ length bytes.now }
-    ensures { out.new ≡ run_at slot_at 16 at (length out.old) bytes.now }
+    ensures { out.new ≡ run_at slot_entry_at 16 at (length out.old) bytes.now }
 {
     'get: for i in 0..out.len() {
-        out[i] = slot_at(bytes, at + 16 * i);
+        out[i] = slot_entry_at(bytes, at + 16 * i);
     }
 }
 
@@ -98,7 +98,7 @@ fn slots_in(bytes: &[u8], count: usize, out: &mut [Slot]) -> bool
     requires size { length bytes.now ≡ 4096 }
     requires count { length out.old ≡ count }
     requires few { 16 * count ≤ 4096 }
-    ensures candidate { out.new ≡ run_at slot_at 16 0 count bytes.now }
+    ensures candidate { out.new ≡ run_at slot_entry_at 16 0 count bytes.now }
     ensures spelled { IsTrue result ↔ (bytes.now ≡ plain_page (run_bytes slot_bytes out.new)) }
 {
     get_slots(bytes, 0, out);
@@ -115,6 +115,7 @@ pub(crate) fn read_numbers(numbers: &mut [u32], block: u32, bytes: &[u8]) -> boo
     ensures read { IsTrue result → in_blocks (run_bytes le32 numbers.new) ≡ written (in_blocks (run_bytes le32 numbers.old)) (4096 * block) bytes.now }
     ensures kept { result ≡ false → numbers.new ≡ numbers.old }
     ensures grammar { (xs : List ℕ) → length xs ≡ length numbers.old → block_of (in_blocks (run_bytes le32 xs)) block ≡ bytes.now → result ≡ true }
+    ensures fit { All (λ number. number < 2 ^ 32) numbers.new }
 {
     let from = 1024 * block as usize;
     let count = (numbers.len() - from).min(1024);

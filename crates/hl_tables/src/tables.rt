@@ -124,7 +124,8 @@ impl Tables {
     pub fn write_block(&self, i: u32, out: &mut [u8])
         requires exists { i < table_blocks_of (length self.now.used) (length self.now.inodes) (sum self.now.slots.volumes) }
         requires size { length out.old ≡ 4096 }
-        ensures { out.new ≡ table_block self.now i }
+        ensures block { out.new ≡ table_block self.now i }
+        ensures limits { IsWithinLimits self.now × IsSlotTable self.now.slots }
     {
         let used = self.inode_blocks();
         let slots = used + self.used_blocks();

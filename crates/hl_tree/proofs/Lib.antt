@@ -1,4 +1,3 @@
-pub mod After
 pub mod Below
 pub mod Children
 pub mod Contents
@@ -7,14 +6,8 @@ pub mod Maps
 pub mod Moved
 pub mod MovedPaths
 pub mod MovedRows
-pub mod MovedTree
-pub mod NamesIn
-pub mod OtherContents
 pub mod Places
 pub mod Room
-pub mod SameCalls
 pub mod Sorted
 pub mod Step
-pub mod Tree
 pub mod Ways
-pub mod WorkedExamples

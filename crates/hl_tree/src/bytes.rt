@@ -1,4 +1,5 @@
-// The bytes of a file, which are changed where they lie.
+//! The bytes of a file, which are changed where they lie.
+
 ghost use Rattle.std.specs.Prelude.{◌≡◌, ◌+◌, ◌^◌, ◌<◌, ◌≤◌, IfOk, OnOk, OnErr, length, max, vec_len};
 ghost use Rattle.hl_tree.specs.Contents.{resized, written, read_at as bytes_read};
 
@@ -72,5 +73,6 @@ fn make_room(bytes: &mut Vec<u8>, size: usize) -> Result<(), AllocError>
     if size <= bytes.capacity() {
         return Ok(());
     }
-    bytes.reserve_exact((size - bytes.len()).saturating_add(size / 8))
+    let missing = size.saturating_sub(bytes.len());
+    bytes.reserve_exact(missing.saturating_add(size / 8))
 }

@@ -1,4 +1,5 @@
-// Calls and replies.
+//! Calls and replies.
+
 ghost use Rattle.std.specs.Prelude.{◌≡◌, IfOk};
 
 use crate::list::Copied;

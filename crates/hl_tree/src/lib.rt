@@ -16,6 +16,3 @@ pub use list::{Copied, List};
 pub use node::Node;
 pub use path::Path;
 pub use plain::PlainTree;
-
-#[cfg(test)]
-mod tests;

@@ -1,4 +1,5 @@
-// A list whose items contracts see, and not its capacity.
+//! A list whose items contracts see, and not its capacity.
+
 ghost use Rattle.std.specs.Prelude.{◌≡◌, ◌+◌, ◌++◌, ◌^◌, ◌<◌, IfOk, OnOk, OnErr, length};
 ghost use Rattle.std.specs.Cmp.Lexicographic.{pointwise, lists_per, lists_equiv, lists_po, slice_partial_cmp, slice_cmp, lists_total, lists_agrees, lists_ties};
 ghost use Rattle.hl_tree.specs.Contents.{resized, written};

@@ -1,4 +1,5 @@
-// Rows that move: those at and below a path come to lie at and below another.
+//! Rows that move: those at and below a path come to lie at and below another.
+
 ghost use Rattle.std.specs.Prelude.{◌≡◌, ◌+◌, ◌≤◌, ◌++◌, IfOk, IfSome, OnOk, OnErr, take, drop, length, vec_len};
 ghost use Rattle.std.specs.Option.{option_copied};
 ghost use Rattle.hl_tree.specs.Moved.{moved_rows_of, moving_rows, kept_rows, moved_keys, with_keys, moving_rest as rest_that_moves};

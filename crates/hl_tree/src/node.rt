@@ -1,4 +1,5 @@
-// What stands at a path.
+//! What stands at a path.
+
 ghost use Rattle.std.specs.Prelude.{◌≡◌, ◌+◌, ◌^◌, ◌<◌, OnOk, OnErr, length};
 ghost use Rattle.hl_tree.specs.Contents.{resized, written};
 ghost use Rattle.hl_tree.specs.OtherContents.{node_map};

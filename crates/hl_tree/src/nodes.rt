@@ -1,4 +1,5 @@
-// The nodes of a tree, in order of their paths, seen as a finite map.
+//! The nodes of a tree, in order of their paths, seen as a finite map.
+
 ghost use Rattle.std.specs.Prelude.{◌≡◌, ◌+◌, ◌^◌, ◌<◌, ◌≤◌, OnOk, OnErr, IfOk, MatchResult, length};
 ghost use Rattle.std.specs.Option.{option_copied};
 ghost use Rattle.std.specs.FinMap as map;

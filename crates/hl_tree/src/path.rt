@@ -1,4 +1,5 @@
-// Paths.
+//! Paths.
+
 ghost use Rattle.std.specs.Prelude.{◌≡◌, [], ◌++◌, ◌↔◌, IsTrue, IsSome, IfSome, IfOk, List as Items, nat_eq};
 ghost use Rattle.std.specs.Cmp.Lexicographic.{pointwise, lists_per, lists_equiv, nat_list_eq_equiv};
 ghost use Rattle.std.specs.Option.{option_copied};

@@ -1,4 +1,5 @@
-// The plain program of the file rules: a tree in memory, kept as plainly as can be.
+//! The plain program of the file rules: a tree in memory, kept as plainly as can be.
+
 ghost use Rattle.std.specs.Prelude.{◌≡◌, ◌≢◌, IfOk, OnOk, OnErr, ◌<◌, ◌≤◌, ◌&&◌, ℕ, Ok, Err, is_some};
 ghost use Rattle.std.specs.Option.{option_copied};
 ghost use Rattle.std.specs.FinMap as map;
@@ -73,8 +74,13 @@ impl PlainTree {
     }
 
     /// Puts a node at a path, whatever stands there and whatever the file rules say: for one who makes a tree of what
-    /// was kept of it. Behind the last path it moves no other row.
-    pub fn put(&mut self, path: Path, node: Node<List<u8>>) -> Result<(), AllocError>
+    /// was kept of it. Behind the last path it moves no other row. An `Err` changes nothing.
+    pub fn put(
+        &mut self,
+        _alloc: Global,
+        path: Path,
+        node: Node<List<u8>>,
+    ) -> Result<(), AllocError>
         requires { map.len self.old.tree < self.old.limits.nodes }
         ensures ok { OnOk result (self.new ≡ record self.old { tree = map.insert self.old.tree path node }) }
         ensures err { OnErr result (self.new ≡ self.old) }

@@ -1,4 +1,5 @@
-// The rows of a tree, in the order of their paths.
+//! The rows of a tree, in the order of their paths.
+
 ghost use Rattle.std.specs.Prelude.{◌≡◌, ◌+◌, ◌^◌, ◌<◌, ◌≤◌, not, is_some, is_none, map as map_list, OnOk, OnErr, IfOk, length};
 ghost use Rattle.std.specs.Option.{option_copied};
 ghost use Rattle.std.specs.FinMap.Entries.{find, put, where_key};

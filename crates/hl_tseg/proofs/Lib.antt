@@ -1,1 +1,2 @@
 pub mod OpenSlots
+pub mod SlotRuns

@@ -1,1 +1,3 @@
 pub mod SlotTable
+pub mod Slots
+pub mod Segments

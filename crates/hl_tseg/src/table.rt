@@ -47,7 +47,7 @@ impl TsegTable {
     /// What each slot holds, volume 0 first.
     pub fn items(&self) -> &[Slot]
         ensures value { result.now ≡ self.now.slots }
-        ensures sizes { IsSlotTable self.now }
+        ensures limits { IsSlotTable self.now }
     {
         self.slots.as_slice()
     }
@@ -55,7 +55,7 @@ impl TsegTable {
     /// Whether each volume is full.
     pub fn full(&self) -> &[bool]
         ensures value { result.now ≡ self.now.full }
-        ensures sizes { IsSlotTable self.now }
+        ensures limits { IsSlotTable self.now }
     {
         self.full.as_slice()
     }
@@ -73,7 +73,7 @@ impl TsegTable {
         requires { tseg < length self.old.slots }
         ensures { self.new ≡ record self.old { slots = slice_set self.old.slots tseg slot } }
     {
-        self.slots[tseg as usize] = slot;
+        self.put(tseg as usize, slot);
     }
 
     /// Gives slots one after the other what they hold from now on.
@@ -81,7 +81,9 @@ impl TsegTable {
         requires { from + length slots.now ≤ length self.old.slots }
         ensures { self.new ≡ record self.old { slots = with_run self.old.slots from slots.now } }
     {
-        put_run(&mut self.slots, from as usize, slots);
+        'run: for (i, slot) in slots.iter().enumerate() {
+            self.put(from as usize + i, *slot);
+        }
     }
 
     /// Whether a volume is full.
@@ -126,6 +128,14 @@ impl TsegTable {
         None
     }
 
+    /// Gives the slot at a place what it holds from now on.
+    fn put(&mut self, at: usize, slot: Slot)
+        requires { at < length self.old.slots }
+        ensures { self.new ≡ record self.old { slots = slice_set self.old.slots at slot } }
+    {
+        self.slots[at] = slot;
+    }
+
     /// The first free slot of a volume that isn't full, whose slots are those from `first` up to
     /// `end`.
     fn open_in(&self, volume: u32, first: u32, end: u32) -> Option<u32>
@@ -145,7 +155,6 @@ impl TsegTable {
 }
 
 ghost use Rattle.std.specs.Prelude.{◌≡◌, ◌≢◌, ◌+◌, ◌<◌, ◌≤◌, ℕ, length, slice_get, Some, IfSome, IfNone};
-ghost use Rattle.hl_tseg.specs.SlotTable.{with_run};
 ghost use Rattle.hl_tseg.specs.declared.slot.Slot.TheVariants.{Free};
 
 /// The first free slot of those from `from` up to `end`.
@@ -162,12 +171,4 @@ fn first_free(slots: &[Slot], from: u32, end: u32) -> Option<u32>
         }
     }
     None
-}
-
-/// Writes slots over others, from `from` on.
-fn put_run(slots: &mut [Slot], from: usize, run: &[Slot])
-    requires { from + length run.now ≤ length slots.old }
-    ensures { slots.new ≡ with_run slots.old from run.now }
-{
-    slots[from..from + run.len()].copy_from_slice(run);
 }

@@ -13,6 +13,7 @@ use Rattle.hl_turn.specs.Rule.{IsAtWork, Fits, IsAtHome, LockRule}
 use Rattle.hl_turn.specs.Lock.{Seated}
 use Rattle.hl_turn.proofs.Lists.{at_below, at_one}
 use Rattle.hl_turn.proofs.Jobs.{lacks_all}
+use Rattle.hl_turn.proofs.GivenOut.{numbers_start}
 use Rattle.hl_turn.proofs.SeatRows.{all_covered, each_mine}
 
 module _ {T E I C : Type 0} (entries : T → List E) (seat_of : E → ℕ) (legal_over : T → T → Type 0) (jobs_out : T → T → List (ℕ × C)) (meets : I → C → Type 0) (opening : T) (limit : ℕ) where
@@ -49,7 +50,6 @@ module _ {T E I C : Type 0} (entries : T → List E) (seat_of : E → ℕ) (lega
       owns = λ _. refl;
       begins = ([], refl);
       counts = omega arith;
-      makes = λ _. (refl, refl);
       waits = λ h. absurd h;
       holds = λ h. absurd h;
       meeting = λ n x h. absurd (some-ne-none (n, x) (sym h.1));
@@ -58,7 +58,9 @@ module _ {T E I C : Type 0} (entries : T → List E) (seat_of : E → ℕ) (lega
     };
     apart = λ i j x y p q bx bk eq. (only i x p).0 ∙ sym (only j y q).0;
     drawn = λ k low high. absurd (omega (arith, low, high));
+    numbers = numbers_start opening;
     unnamed = λ n _. refl;
+    once = tt;
     single = λ i j x y k a b p q hx hy. (only i x p).0 ∙ sym (only j y q).0;
     distinct = λ j u e. subst (λ (z : V). Distinct z.holds) (only j u e).1 tt;
     held = λ n c h. absurd (some-ne-none (n, c) (sym h.1));

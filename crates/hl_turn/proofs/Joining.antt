@@ -14,6 +14,7 @@ use Rattle.hl_turn.specs.Entries.{by_seat}
 use Rattle.hl_turn.specs.Jobs.{Has, Distinct}
 use Rattle.hl_turn.specs.Views.{IsLive, IsBusy, HasObject, weight, spent_view, left, right, both}
 use Rattle.hl_turn.specs.Rule.{IsSpent, IsAtWork, Fits, IsAtHome, LockRule}
+use Rattle.hl_turn.proofs.GivenOut.{numbers_split, numbers_join}
 use Rattle.hl_turn.proofs.Lists.{at_below, at_one, at_end, at_both, sum_set, begins_longer}
 
 module _ {T E I C : Type 0} (entries : T → List E) (seat_of : E → ℕ) (legal_over : T → T → Type 0) (jobs_out : T → T → List (ℕ × C)) (meets : I → C → Type 0) (opening : T) (limit : ℕ) where
@@ -36,14 +37,13 @@ module _ {T E I C : Type 0} (entries : T → List E) (seat_of : E → ℕ) (lega
   gone_live views id v n at live g e = subst IsLive (ap (λ (u : V). u.stage) (at_one views id v g.0 at (ap (get_elem? views) (sym e) ∙ g.1)) ∙ g.2) live
 
   -- the same view among other views, of which no fewer are gone
-  among : (log : List E) (outs : List (ℕ × C)) (a b c : ℕ) (views views' : List V) (j : ℕ) (u : V) → Fit log outs a b c views j u → ((n : ℕ) → IsSpent views n → IsSpent views' n) → (0 < u.made → u.made ≡ length views') → Fit log outs a b c views' j u
-  among log outs a b c views views' j u f stay made = record {
+  among : (log : List E) (outs : List (ℕ × C)) (a b c : ℕ) (views views' : List V) (j : ℕ) (u : V) → Fit log outs a b c views j u → ((n : ℕ) → IsSpent views n → IsSpent views' n) → Fit log outs a b c views' j u
+  among log outs a b c views views' j u f stay = record {
     from = f.from;
     numbered = f.numbered;
     owns = f.owns;
     begins = f.begins;
     counts = f.counts;
-    makes = λ h. ((f.makes h).0, made h);
     waits = f.waits;
     holds = f.holds;
     meeting = f.meeting;
@@ -51,12 +51,17 @@ module _ {T E I C : Type 0} (entries : T → List E) (seat_of : E → ℕ) (lega
     keeps = λ k n m e. let g = f.keeps k n m e in (stay n g.0, g.1);
   }
 
+  -- a view that knows how many numbers are given out knows that they are as many as the views
+  tells : (s : St) (r : Rule s) (id : ℕ) (v : V) → get_elem? s.views id ≡ some v → 0 < v.made → v.made ≡ length s.views
+  tells s r id v at h = let g = r.numbers.given in let near = at_below s.views id v at in let is = g.3 in
+      ap (λ (z : V). z.made) (at_one s.views id v g.1 at (ap (get_elem? s.views) (r.numbers.maker id g.0 v g.1 at g.2 h (omega (arith, near, is))) ∙ g.2)) ∙ g.3
+
   pub splits_seat : (id : ℕ) (v : V) → v.stage ≡ Idle → 0 < v.made → v.made < limit → Splits Rule id v (left v) (right v)
   splits_seat id v idle maker room s r at =
       let l : V = left v in let n : V = right v in let vs : List V = set s.views id l in let all : List V = vs ++ n ∷ [] in
       let f = r.each id v at in
       let live : IsLive v.stage = subst IsLive (sym idle) tt in
-      let first : id ≡ 0 = (f.makes maker).0 in let made : v.made ≡ length s.views = (f.makes maker).1 in
+      let made : v.made ≡ length s.views = tells s r id v at maker in
       let long : length all ≡ length s.views + 1 = length-append vs (n ∷ []) ∙ ap (λ k. k + 1) (length-set s.views id l) in
       let long' : length vs ≡ v.made = length-set s.views id l ∙ sym made in
       let near : id < length s.views = at_below s.views id v at in
@@ -83,20 +88,18 @@ module _ {T E I C : Type 0} (entries : T → List E) (seat_of : E → ℕ) (lega
           owns = f.owns;
           begins = f.begins;
           counts = f.counts;
-          makes = λ h. (first, omega (arith, long, made));
           waits = f.waits;
           holds = f.holds;
           meeting = f.meeting;
           spent_none = f.spent_none;
           keeps = λ k m es at_k. let g = f.keeps k m es at_k in (stay m g.0, g.1);
-        }) (λ (x : (j ≢ id) × (get_elem? s.views j ≡ some u)). among r.log r.outs r.serving r.ticket r.count s.views all j u (r.each j u x.1) stay (λ h. absurd (x.0 (((r.each j u x.1).makes h).0 ∙ sym first)))) (at_set s.views id j l u old))
+        }) (λ (x : (j ≢ id) × (get_elem? s.views j ≡ some u)). among r.log r.outs r.serving r.ticket r.count s.views all j u (r.each j u x.1) stay) (at_set s.views id j l u old))
             (λ (x : (j ≡ length vs) × (n ≡ u)). subst (λ (y : ℕ × V). Fit r.log r.outs r.serving r.ticket r.count all y.0 y.1) (λ k. (sym x.0 k, x.1 k)) record {
               from = λ _. f.from live;
               numbered = λ _. sym long';
               owns = λ _. r.unnamed (length vs) (omega (arith, long', made));
               begins = f.begins;
               counts = f.counts;
-              makes = λ h. absurd (omega (arith, h));
               waits = λ h. absurd h;
               holds = λ h. absurd h;
               meeting = λ n x h. absurd (some-ne-none (n, x) (sym h.1));
@@ -105,7 +108,9 @@ module _ {T E I C : Type 0} (entries : T → List E) (seat_of : E → ℕ) (lega
             }) (at_end vs n u j e);
         apart = λ i j x y p q bx bk eq. r.apart i j x y (free IsBusy (λ z. z) i x p bx).1 (free IsBusy (λ z. z) j y q bk).1 bx bk eq;
         drawn = λ k low high. let d = r.drawn k low high in (d.0, d.1, back IsBusy (λ z. z) d.0 d.1 d.2 d.3, d.3, d.4);
+        numbers = numbers_split s.views id v at idle maker made r.numbers;
         unnamed = λ k far. r.unnamed k (omega (arith, far, long));
+        once = r.once;
         single = λ i j x y k a b p q hx hy. let g = whose i x p k a hx in let h = whose j y q k b hy in r.single i j g.0 h.0 k a b g.1 h.1 g.2 h.2;
         distinct = λ j u e. ⊎_elim (λ old. ⊎_elim (λ (x : (j ≡ id) × (l ≡ u)). subst (λ (z : V). Distinct z.holds) x.1 (r.distinct id v at)) (λ (x : (j ≢ id) × (get_elem? s.views j ≡ some u)). r.distinct j u x.1) (at_set s.views id j l u old))
             (λ (x : (j ≡ length vs) × (n ≡ u)). subst (λ (z : V). Distinct z.holds) x.1 tt) (at_end vs n u j e);
@@ -162,7 +167,6 @@ module _ {T E I C : Type 0} (entries : T → List E) (seat_of : E → ℕ) (lega
           owns = λ h. absurd h;
           begins = (r.log, refl);
           counts = omega arith;
-          makes = λ h. absurd (omega (arith, h));
           waits = λ h. absurd h;
           holds = λ h. absurd h;
           meeting = λ n x h. absurd (some-ne-none (n, x) (sym h.1));
@@ -174,17 +178,18 @@ module _ {T E I C : Type 0} (entries : T → List E) (seat_of : E → ℕ) (lega
           owns = f.owns;
           begins = begins_longer v.seen w.seen r.log f.begins g.begins;
           counts = let one = f.counts in let two = g.counts in omega (arith, one, two);
-          makes = λ h. ((f.makes h).0, (f.makes h).1 ∙ sym long);
           waits = f.waits;
           holds = λ h. absurd (subst HasObject idle h);
           meeting = f.meeting;
           spent_none = f.spent_none;
           keeps = λ k m es at_k. ⊎_elim (λ mine. let h = f.keeps k m es mine in (stay m h.0, h.1))
               (λ (theirs : (i : ℕ) × (get_elem? ((w.number, w.mine) ∷ w.ended) i ≡ some (m, es))). kept_there r.log r.outs r.serving r.ticket r.count s.views all other w g gone stay live' theirs.0 m es theirs.1) (at_both v.ended ((w.number, w.mine) ∷ w.ended) k (m, es) at_k);
-        }) (λ (x : (j ≢ id) × (get_elem? s.views j ≡ some u)). among r.log r.outs r.serving r.ticket r.count s.views all j u (r.each j u x.1) stay (λ h. ((r.each j u x.1).makes h).1 ∙ sym long)) y) (old j u e);
+        }) (λ (x : (j ≢ id) × (get_elem? s.views j ≡ some u)). among r.log r.outs r.serving r.ticket r.count s.views all j u (r.each j u x.1) stay) y) (old j u e);
         apart = λ i j x y p q bx bk eq. r.apart i j x y (free IsBusy (λ z. z) (λ z. z) i x p bx) (free IsBusy (λ z. z) (λ z. z) j y q bk) bx bk eq;
         drawn = λ k low high. let d = r.drawn k low high in (d.0, d.1, back IsBusy (λ z. z) d.0 d.1 d.2 d.3, d.3, d.4);
+        numbers = numbers_join s.views id v other w at at' apart live live' (g.numbered live') (λ j u e n a h. ((r.each j u e).keeps h.0 n a h.1).0) r.numbers;
         unnamed = λ k far. r.unnamed k (subst (λ z. z ≤ k) long far);
+        once = r.once;
         single = λ i j x y k a c p q hx hy. let g = whose i x p k a hx in let h = whose j y q k c hy in r.single i j g.0 h.0 k a c g.1 h.1 g.2 h.2;
         distinct = λ j u e. ⊎_elim (λ (x : (j ≡ other) × (spent_view ≡ u)). subst (λ (z : V). Distinct z.holds) x.1 tt)
             (λ y. ⊎_elim (λ (x : (j ≡ id) × (b ≡ u)). subst (λ (z : V). Distinct z.holds) x.1 (r.distinct id v at)) (λ (x : (j ≢ id) × (get_elem? s.views j ≡ some u)). r.distinct j u x.1) y) (old j u e);

@@ -1,5 +1,5 @@
 -- Each kind of step keeps the rule.
-use Rattle.std.proofs.Common.{◌≡◌, ◌≢◌, ◌⊎◌, ⊎_elim, ℕ, ◌+◌, ◌%◌, ◌^◌, ◌<◌, ◌≤◌, List, [], ◌∷◌, length, set, sum_by, sym, ap, ◌∙◌, subst, arith, length-set}
+use Rattle.std.proofs.Common.{◌≡◌, ◌≢◌, ◌⊎◌, ⊎_elim, ℕ, ◌+◌, ◌%◌, ◌^◌, ◌<◌, ◌≤◌, List, [], ◌∷◌, length, set, sum_by, refl, sym, ap, ◌∙◌, subst, arith, length-set}
 use mathlib.Core.Option.{none, some, some-injective, some-ne-none}
 use mathlib.Core.Option as maybe
 use lib.ListN.{get_elem?}
@@ -13,6 +13,7 @@ use Rattle.hl_turn.specs.Jobs.{Has, Lacks, Distinct, AllMeet, Shifts}
 use Rattle.hl_turn.specs.Views.{IsLive, IsBusy, HasObject, weight, moved}
 use Rattle.hl_turn.specs.Rule.{IsSpent, IsAtWork, Fits, IsAtHome, LockRule}
 use Rattle.hl_turn.proofs.Lists.{at_below, at_one, begins_more}
+use Rattle.hl_turn.proofs.GivenOut.{live_unless, numbers_moved}
 
 pub weight_one : (st : Stage) → weight st ≤ 1
 weight_one Idle = omega arith
@@ -60,7 +61,6 @@ module _ {T E I C : Type 0} (entries : T → List E) (seat_of : E → ℕ) (lega
     owns = λ l. same j other ∙ f.owns l;
     begins = begins_more u.seen log log' f.begins grows;
     counts = let h = f.counts in omega arith;
-    makes = λ h. let m = f.makes h in (m.0, m.1 ∙ sym (length-set views id w));
     waits = waits;
     holds = holds;
     meeting = meeting;
@@ -81,7 +81,6 @@ module _ {T E I C : Type 0} (entries : T → List E) (seat_of : E → ℕ) (lega
     owns = λ _. here;
     begins = begins;
     counts = counts;
-    makes = λ h. let m = f.makes h in (m.0, m.1 ∙ sym (length-set views id (moved v seen mine hold out steps st t)));
     waits = waits;
     holds = holds;
     meeting = meeting;
@@ -130,7 +129,9 @@ module _ {T E I C : Type 0} (entries : T → List E) (seat_of : E → ℕ) (lega
             (λ (m : (j ≢ id) × (get_elem? s.views j ≡ some x)). ⊎_elim (λ (l : (k ≡ id) × (w ≡ y)). absurd ((busy j x m.1 m.0 bx).2 (subst (λ (z : V). IsBusy z.stage) (sym l.1) bk) (eq ∙ ap (λ (z : V). z.ticket) (sym l.1))))
             (λ (l : (k ≢ id) × (get_elem? s.views k ≡ some y)). r.apart j k x y m.1 l.1 bx bk eq) (at_set s.views id k w y q)) (at_set s.views id j w x p);
         drawn = drawn;
+        numbers = numbers_moved s.views id v w at refl refl refl (live_unless st alive) r.numbers;
         unnamed = λ k h. let far : length s.views ≤ k = subst (λ z. z ≤ k) (length-set s.views id w) h in let near = at_below s.views id v at in same k (λ e. omega arith) ∙ r.unnamed k far;
+        once = shifts.once;
         single = λ i j x y k a b p q hx hy. ⊎_elim (λ (m : (i ≡ id) × (w ≡ x)). ⊎_elim (λ (l : (j ≡ id) × (w ≡ y)). m.0 ∙ sym l.0)
             (λ (l : (j ≢ id) × (get_elem? s.views j ≡ some y)). absurd (strange j y l.1 l.0 k b a hy (subst (λ (z : V). Has z.holds k a) (sym m.1) hx))) (at_set s.views id j w y q))
             (λ (m : (i ≢ id) × (get_elem? s.views i ≡ some x)). ⊎_elim (λ (l : (j ≡ id) × (w ≡ y)). absurd (strange i x m.1 m.0 k a b hx (subst (λ (z : V). Has z.holds k b) (sym l.1) hy)))

@@ -1,5 +1,6 @@
 pub mod Lists
 pub mod Jobs
+pub mod GivenOut
 pub mod KeepsRule
 pub mod SeatSteps
 pub mod Joining

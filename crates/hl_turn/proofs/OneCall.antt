@@ -27,6 +27,7 @@ module _ {T E I C X : Type 0} (entries : T → List E) (legal_over : T → T →
       may = subst (λ (u : Me T (View T E I C)). MayAsk asks brings returns u.0.number u.0.holds event) (sym d.0) may;
       met = t.6;
       apart = t.7;
+      once = t.8;
     },
   )
 
@@ -52,6 +53,7 @@ module _ {T E I C X Y : Type 0} (entries : T → List E) (seat_of : E → ℕ) (
     pub begins : Begins v.seen (entries before)
     pub met : AllMeet meets (jobs_out opening before) v.holds
     pub apart : Distinct v.holds
+    pub once : Distinct (jobs_out opening before)
     pub legal : legal_over opening before
     pub org : v.opening ≡ Some opening
     pub is : m ≡ (moved v (entries before) v.mine v.holds (jobs_out opening before) v.steps Served turn, (0, after) ∷ [])
@@ -74,6 +76,7 @@ module _ {T E I C X Y : Type 0} (entries : T → List E) (seat_of : E → ℕ) (
         begins = subst (λ l. Begins l (entries x)) (ap (λ (m : M). m.0.seen) d.0) (subst (λ z. Begins m1.0.seen (entries z)) same t.5);
         met = subst (λ h. AllMeet meets (jobs_out opening x) h) (ap (λ (m : M). m.0.holds) d.0) (subst (λ o. AllMeet meets (jobs_out o x) m1.0.holds) here (subst (λ z. AllMeet meets (jobs_out t.1 z) m1.0.holds) same t.6));
         apart = subst (λ (h : List (ℕ × I)). Distinct h) (ap (λ (m : M). m.0.holds) d.0) t.7;
+        once = subst (λ o. Distinct (jobs_out o x)) here (subst (λ z. Distinct (jobs_out t.1 z)) same t.8);
         legal = subst (λ o. legal_over o x) here (subst (λ z. legal_over t.1 z) same t.4);
         org = org;
         is = w.4 ∙ ap (λ (u : View T E I C). (u, (0, w.1) ∷ [])) m2_is;
@@ -88,7 +91,7 @@ module _ {T E I C X Y : Type 0} (entries : T → List E) (seat_of : E → ℕ) (
     ap (λ (u : M). u.1) a.is,
     a.step.grows ∙ ap (λ l. l ++ a.own) (sym (ap (λ (u : M). u.0.seen) a.is)),
     subst (λ n. IsOwn seat_of n a.own) (sym (ap (λ (u : M). u.0.number) a.is)) a.step.owned,
-    subst (λ (u : M). Shifts meets u.0.holds u.0.outs (held_after brings takes u.0.holds event answer) (jobs_out opening a.after)) (sym a.is) (a.step.jobs opening a.legal a.met a.apart).1,
+    subst (λ (u : M). Shifts meets u.0.holds u.0.outs (held_after brings takes u.0.holds event answer) (jobs_out opening a.after)) (sym a.is) (a.step.jobs opening a.legal a.met a.apart a.once).1,
     ap (λ (u : M). u.0.opening) a.is ∙ a.org,
   )
 
@@ -101,6 +104,7 @@ module _ {T E I C X Y : Type 0} (entries : T → List E) (seat_of : E → ℕ) (
     pub begins : Begins v.seen (entries before)
     pub met : AllMeet meets (jobs_out opening before) v.holds
     pub apart : Distinct v.holds
+    pub once : Distinct (jobs_out opening before)
     pub legal : legal_over opening before
     pub org : v.opening ≡ Some opening
     pub is : m ≡ (moved v (entries after) (v.mine ++ own) (held_after brings takes v.holds event answer) (jobs_out opening after) m.0.steps Counted turn, (0, after) ∷ [])
@@ -122,6 +126,7 @@ module _ {T E I C X Y : Type 0} (entries : T → List E) (seat_of : E → ℕ) (
         begins = a.begins;
         met = a.met;
         apart = a.apart;
+        once = a.once;
         legal = a.legal;
         org = a.org;
         is = k.5 ∙ (ap (λ z. (moved m.0 (entries z) (m.0.mine ++ k.2) (held_after brings takes m.0.holds event answer) (jobs_out k.1 z) m'.0.steps Counted m.0.ticket, m.1)) same
@@ -134,14 +139,14 @@ module _ {T E I C X Y : Type 0} (entries : T → List E) (seat_of : E → ℕ) (
   pub may_give : (opening : T) (limit slots id : ℕ) (v : View T E I C) (event : X) (answer : Y) (m : M) → 0 < slots → Counted_it opening v event answer m
       → Allows (LockRule entries seat_of legal_over jobs_out meets opening limit) slots id m 1 (λ n. (n + 1) % 2 ^ 64) (λ r n. gives_back m n)
   may_give opening limit slots id v event answer m some_slot a = gives_turn entries seat_of legal_over jobs_out meets opening limit slots id m a.after some_slot (ap (λ (u : M). u.0.stage) a.is) (ap (λ (u : M). u.1) a.is)
-      (sym (ap (λ (u : M). u.0.seen) a.is)) (a.step.jobs opening a.legal a.met a.apart).0 (sym (ap (λ (u : M). u.0.outs) a.is))
+      (sym (ap (λ (u : M). u.0.seen) a.is)) (a.step.jobs opening a.legal a.met a.apart a.once).0 (sym (ap (λ (u : M). u.0.outs) a.is))
 
   pub after_give : (opening : T) (v : View T E I C) (event : X) (answer : Y) (m m' : M) → Counted_it opening v event answer m → gives_back m m'
       → IsReturned entries seat_of legal_over jobs_out meets does brings takes opening v event answer m'.0
   after_give opening v event answer m m' a g =
       let w : View T E I C = moved v (entries a.after) (v.mine ++ a.own) (held_after brings takes v.holds event answer) (jobs_out opening a.after) m.0.steps Idle a.turn in
       let is : m'.0 ≡ w = ap (λ (u : M). u.0) g ∙ ap (λ (u : M). moved u.0 u.0.seen u.0.mine u.0.holds u.0.outs u.0.steps Idle u.0.ticket) a.is in
-      let after = a.step.jobs opening a.legal a.met a.apart in
+      let after = a.step.jobs opening a.legal a.met a.apart a.once in
       subst (λ (u : View T E I C). IsReturned entries seat_of legal_over jobs_out meets does brings takes opening v event answer u) (sym is) record {
         answered = record {
           found = a.before;
@@ -156,6 +161,7 @@ module _ {T E I C X Y : Type 0} (entries : T → List E) (seat_of : E → ℕ) (
           seen = refl;
           mine = refl;
           met = a.met;
+          once = a.once;
           jobs = after.1;
         };
         holds = refl;

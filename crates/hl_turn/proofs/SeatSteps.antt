@@ -14,7 +14,7 @@ use Rattle.hl_turn.specs.declared.view.View.{View}
 use Rattle.hl_turn.specs.declared.view.Stage.{Stage}
 use Rattle.hl_turn.specs.declared.view.Stage.TheVariants.{Idle, Drawn, Served, Counted}
 use Rattle.hl_turn.specs.Entries.{IsOwn, Begins, by_seat}
-use Rattle.hl_turn.specs.Jobs.{Has, AllMeet, Shifts}
+use Rattle.hl_turn.specs.Jobs.{Has, Distinct, AllMeet, Shifts}
 use Rattle.hl_turn.specs.Views.{IsLive, IsBusy, HasObject, weight, moved}
 use Rattle.hl_turn.specs.Rule.{IsAtWork, IsAtHome, LockRule}
 use Rattle.hl_turn.specs.Kinds.{draws, gives_back, looks, Takes, takes_turn, counts_step}
@@ -43,6 +43,7 @@ module _ {T E I C : Type 0} (entries : T → List E) (seat_of : E → ℕ) (lega
   unshifted s r id v at = record {
     met = (r.each id v at).meeting;
     apart = r.distinct id v at;
+    once = r.once;
     others = λ n c h _. (c, h, λ x m. m);
     own = λ n x h. inl (x, h);
     all = λ n c h. let g = r.held n c h in dite (ℕ_discrete g.0 id)
@@ -126,7 +127,7 @@ module _ {T E I C : Type 0} (entries : T → List E) (seat_of : E → ℕ) (lega
             (λ ne. (d.0, d.1, set_else s.views id d.0 w ne ∙ d.2, d.3, d.4)))
             (inr (id, w, set_here s.views id w (at_below s.views id v at), tt)),
         subst (λ b. MatchBool b (Takes entries legal_over jobs_out meets me (w, (0, x) ∷ me.1)) ((w, (0, x) ∷ me.1) ≡ me)) (sym (eq-eqb (get_or s.words 1 0) (v.ticket % 2 ^ 64) e))
-            (x, opening, refl, f.from live, home.3, subst (λ l. Begins v.seen l) (sym home.2) f.begins, subst (λ o. AllMeet meets o v.holds) (sym home.5) f.meeting, r.distinct id v at),
+            (x, opening, refl, f.from live, home.3, subst (λ l. Begins v.seen l) (sym home.2) f.begins, subst (λ o. AllMeet meets o v.holds) (sym home.5) f.meeting, r.distinct id v at, subst (λ (o : List (ℕ × C)). Distinct o) (sym home.5) r.once),
       ))
       (λ ne. (
         v,

@@ -27,9 +27,10 @@ module _ {T E I C X Y : Type 0} (entries : T → List E) (seat_of : E → ℕ) (
     -- the seat has seen the whole list, and has the entry more of its own
     pub seen : w.seen ≡ entries left
     pub mine : w.mine ≡ v.mine ++ own
-    -- what the seat held was out and met its claims; of the jobs that are out its own changed, and no other's
-    -- claim is greater
+    -- what the seat held was out, where each job stood once, and met its claims; of the jobs that are out its own
+    -- changed, and no other's claim is greater
     pub met : AllMeet meets (jobs_out opening found) v.holds
+    pub once : Distinct (jobs_out opening found)
     pub jobs : Shifts meets v.holds (jobs_out opening found) w.holds (jobs_out opening left)
 
 module _ {T E I C X Y : Type 0} (entries : T → List E) (seat_of : E → ℕ) (legal_over : T → T → Type 0) (jobs_out : T → T → List (ℕ × C)) (meets : I → C → Type 0) (does : T → X → Y → T → Type 0) (brings : X → Option ℕ) (takes : X → Y → Option (ℕ × I)) where
@@ -38,7 +39,7 @@ module _ {T E I C X Y : Type 0} (entries : T → List E) (seat_of : E → ℕ) (
     pub made : does x event answer y
     pub grows : entries y ≡ entries x ++ own
     pub owned : IsOwn seat_of n own
-    pub jobs : (o : T) → legal_over o x → AllMeet meets (jobs_out o x) h → Distinct h → legal_over o y × Shifts meets h (jobs_out o x) (held_after brings takes h event answer) (jobs_out o y)
+    pub jobs : (o : T) → legal_over o x → AllMeet meets (jobs_out o x) h → Distinct h → Distinct (jobs_out o x) → legal_over o y × Shifts meets h (jobs_out o x) (held_after brings takes h event answer) (jobs_out o y)
 
   -- the object in the seat's hand made one step
   abbrev pub IsWork : ℕ → Me T (View T E I C) → X → Y → Me T (View T E I C) → Type 0

@@ -41,8 +41,9 @@ module _ {I C : Type 0} (meets : I → C → Type 0) where
   pub record Shifts (h : List (ℕ × I)) (outs : List (ℕ × C)) (h' : List (ℕ × I)) (outs' : List (ℕ × C)) : Type 0 where
     -- each job that it holds then is out, and meets its claim
     pub met : AllMeet outs' h'
-    -- it holds no job twice
+    -- it holds no job twice, and no job stands twice among those out
     pub apart : Distinct h'
+    pub once : Distinct outs'
     -- a job of another seat stays out, with a claim that is no greater
     pub others : (n : ℕ) (c : C) → Has outs n c → Lacks h n → (c' : C) × Has outs' n c' × ((x : I) → meets x c → meets x c')
     -- a job that it holds then was its own, or was not out

@@ -22,13 +22,14 @@ module _ {T E I C : Type 0} where
   looks m r n = (n ≡ (knowing n.0.steps m.0, m.1)) × (m.0.steps ≤ n.0.steps) × (r ≡ n.0.steps % 2 ^ 64)
 
   module _ (entries : T → List E) (legal_over : T → T → Type 0) (jobs_out : T → T → List (ℕ × C)) (meets : I → C → Type 0) where
-    -- the seat has the object x, which is legal over the opening and begins with all that the seat had seen
+    -- the seat has the object x, which is legal over the opening, begins with all that the seat had seen, and has
+    -- each job out once
     abbrev pub Takes : Me T (View T E I C) → Me T (View T E I C) → Type 0
     Takes m n =
         (x o : T)
         × (n ≡ (moved m.0 (entries x) m.0.mine m.0.holds (jobs_out o x) m.0.steps Served m.0.ticket, (0, x) ∷ m.1))
         × (m.0.opening ≡ Some o) × legal_over o x × Begins m.0.seen (entries x)
-        × AllMeet meets (jobs_out o x) m.0.holds × Distinct m.0.holds
+        × AllMeet meets (jobs_out o x) m.0.holds × Distinct m.0.holds × Distinct (jobs_out o x)
 
     -- where the word found is the seat's ticket it has the object, and else nothing changed
     abbrev pub takes_turn : Me T (View T E I C) → ℕ → Me T (View T E I C) → Type 0

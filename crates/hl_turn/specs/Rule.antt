@@ -18,6 +18,22 @@ module _ {T E I C : Type 0} where
   abbrev pub IsAtWork : List (View T E I C) → Type 0
   IsAtWork views = (j : ℕ) × (v : View T E I C) × (get_elem? views j ≡ some v) × HasObject v.stage
 
+  -- the number n stands among the views: it is a live one's own, or is kept for a seat that was joined into that one
+  abbrev pub Stands : List (View T E I C) → ℕ → Type 0
+  Stands views n = (j : ℕ) × (v : View T E I C) × (get_elem? views j ≡ some v) × IsLive v.stage × ((v.number ≡ n) ⊎ ((m : List E) × Has v.ended n m))
+
+  -- The numbers below the count of views are given out. A live view's own is its place, and one that is kept is that of
+  -- a spent view, so no number stands both ways.
+  pub record AreNumbered (views : List (View T E I C)) : Type 0 where
+    -- one view knows how many are given out, and no other speaks of it
+    pub given : (j : ℕ) × (v : View T E I C) × (get_elem? views j ≡ some v) × (v.made ≡ length views)
+    pub maker : (i j : ℕ) (v w : View T E I C) → get_elem? views i ≡ some v → get_elem? views j ≡ some w → 0 < v.made → 0 < w.made → i ≡ j
+    -- each that is given out stands among the views
+    pub stands : (n : ℕ) → n < length views → Stands views n
+    -- no number is kept twice, by two views or by one
+    pub kept_once : (i j : ℕ) (v w : View T E I C) (n : ℕ) (a b : List E) → get_elem? views i ≡ some v → get_elem? views j ≡ some w → Has v.ended n a → Has w.ended n b → i ≡ j
+    pub kept_apart : (j : ℕ) (v : View T E I C) → get_elem? views j ≡ some v → Distinct v.ended
+
   module _ (entries : T → List E) (seat_of : E → ℕ) (legal_over : T → T → Type 0) (jobs_out : T → T → List (ℕ × C)) (meets : I → C → Type 0) where
     -- What holds of the view v at the place j: `log` is the whole list, `outs` are the jobs out, and a, b and c are the numbers of
     -- serving, ticket and count
@@ -31,8 +47,6 @@ module _ {T E I C : Type 0} where
       -- what it has seen begins the list, and it knows of no step that wasn't counted
       pub begins : Begins v.seen log
       pub counts : v.steps ≤ c
-      -- the first alone splits, and knows how many numbers are given out
-      pub makes : 0 < v.made → (j ≡ 0) × (v.made ≡ length views)
       -- a ticket that it has is not served yet, and was drawn
       pub waits : IsBusy v.stage → (a ≤ v.ticket) × (v.ticket < b)
       -- with the object it has the number that is served, the whole list and the jobs out
@@ -65,9 +79,12 @@ module _ {T E I C : Type 0} where
       -- no two seats have one ticket
       pub apart : (i j : ℕ) (v w : View T E I C) → get_elem? s.views i ≡ some v → get_elem? s.views j ≡ some w → IsBusy v.stage → IsBusy w.stage → v.ticket ≡ w.ticket → i ≡ j
       pub drawn : (n : ℕ) → serving ≤ n → n < ticket → (j : ℕ) × (v : View T E I C) × (get_elem? s.views j ≡ some v) × IsBusy v.stage × (v.ticket ≡ n)
+      -- the numbers that are given out
+      pub numbers : AreNumbered s.views
       -- no entry names a number that is not given out
       pub unnamed : (n : ℕ) → length s.views ≤ n → by_seat seat_of n log ≡ []
-      -- each job that is out stands in one view's holds
+      -- no job stands twice among those out, and each stands in one view's holds
+      pub once : Distinct outs
       pub single : (i j : ℕ) (v w : View T E I C) (n : ℕ) (x y : I) → get_elem? s.views i ≡ some v → get_elem? s.views j ≡ some w → Has v.holds n x → Has w.holds n y → i ≡ j
       pub distinct : (j : ℕ) (v : View T E I C) → get_elem? s.views j ≡ some v → Distinct v.holds
       pub held : (n : ℕ) (c : C) → Has outs n c → (j : ℕ) × (v : View T E I C) × (x : I) × (get_elem? s.views j ≡ some v) × Has v.holds n x

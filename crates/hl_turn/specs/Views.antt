@@ -127,12 +127,12 @@ right v = record {
   ticket = 0;
 }
 
--- joining: what the other had done is kept under its number
+-- joining: what the other had done is kept under its number, and what either knows of the numbers that are given out
 abbrev pub both : {T E I C : Type 0} → View T E I C → View T E I C → View T E I C
 both v w = record {
   opening = v.opening;
   number = v.number;
-  made = v.made;
+  made = max v.made w.made;
   seen = longer v.seen w.seen;
   mine = v.mine;
   ended = v.ended ++ (w.number, w.mine) ∷ w.ended;

@@ -2,7 +2,7 @@
 use Rattle.std.specs.Prelude.{◌≡◌, ◌⊎◌, ◌<◌, ◌^◌, ◌+◌, ℕ, Bool, true, false, if◌then◌else◌, Option, Result, Ok, Err, refl}
 use Rattle.std.specs.Coded.{Coded, code_by, coded×, coded_ℕ}
 use Rattle.hl_media.specs.History.{History}
-use Rattle.hl_media.specs.Moments.{Ends}
+use Rattle.hl_media.specs.Moments.{Ends, Runs}
 use Rattle.hl_tree.specs.PlainValue.{Plain, plain_code}
 use Rattle.hl_tree.specs.declared.call.Call.{Call}
 use Rattle.hl_tree.specs.declared.call.Call.TheVariants as calls
@@ -21,16 +21,18 @@ use Rattle.hl_disk.specs.Saves.{HasSaved}
 use Rattle.hl_world.specs.declared.fault.CloseFault.{CloseFault}
 use Rattle.hl_world.specs.declared.fault.CloseFault.TheVariants.{Disk, Memory}
 
--- the machine, the files with their limits, and the number under which the disk keeps files
+-- the machine, the files with their limits, the number under which the disk keeps files, and the time of the last line
 pub record Standing (M : Type 0) : Type 0 where
   pub machine : M
   pub files : Plain
   pub number : ℕ
+  pub time : ℕ
 
 -- stored as a tuple
 abbrev pub standing_code : {M : Type 0} → Coded M → Coded (Standing M)
-standing_code {M} code = code_by ((M × Plain) × ℕ) (coded× (coded× code plain_code) coded_ℕ)
-    (λ s. ((s.machine, s.files), s.number)) (λ p. record { machine = p.0.0; files = p.0.1; number = p.1 }) (λ _. refl)
+standing_code {M} code = code_by ((M × Plain) × (ℕ × ℕ)) (coded× (coded× code plain_code) (coded× coded_ℕ coded_ℕ))
+    (λ s. ((s.machine, s.files), (s.number, s.time)))
+    (λ p. record { machine = p.0.0; files = p.0.1; number = p.1.0; time = p.1.1 }) (λ _. refl)
 
 -- files that can be kept, under a number that has room in a record
 pub record IsReady {M : Type 0} (s : Standing M) : Type 0 where
@@ -75,6 +77,10 @@ abbrev pub Syncs : ℕ → ℕ → Files → Option History → Option History �
 Syncs blocks number tree before now number' (Ok u) = (number' ≡ number + 1) × Ends before now (HasSaved blocks number tree)
 Syncs blocks number tree before now number' (Err Disk) = number' ≡ number
 Syncs blocks number tree before now number' (Err Memory) = (number' ≡ number) × (now ≡ before)
+
+-- nothing is said meanwhile
+abbrev pub SaysNothing : Option History → Option History → Type 0
+SaysNothing before now = Runs before now (λ first s. s.said ≡ first.said)
 
 -- ---- lines
 

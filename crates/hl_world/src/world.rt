@@ -10,7 +10,7 @@ ghost use Rattle.hl_tree.specs.Rules.{Files};
 ghost use Rattle.hl_disk.specs.Disks.{StandsFor};
 ghost use Rattle.hl_disk.specs.Mounts.{Mounts};
 ghost use Rattle.hl_disk.specs.Saves.{HasSaved, IsSaving};
-ghost use Rattle.hl_world.specs.Worlds.{is_file_call, machine_of, mounted_of, why_of, MountsTo, Does, IsReady, KeepsDisk, Syncs, device_part, answer_part};
+ghost use Rattle.hl_world.specs.Worlds.{is_file_call, machine_of, mounted_of, why_of, MountsTo, Does, IsReady, KeepsDisk, SaysNothing, Syncs, device_part, answer_part};
 
 use crate::calls;
 use crate::fault::CloseFault;
@@ -21,12 +21,14 @@ use hl_tree::{Call, PlainTree, Reply};
 use std::alloc::Global;
 use std::marker::Model;
 
-/// A machine whose disk is mounted: its files in memory, and the number under which they were last kept.
+/// A machine whose disk is mounted: its files in memory, the number under which they were last kept, and the time that its
+/// last line was given, in seconds.
 #[derive(Drop)]
 pub struct World<M> {
     machine: M,
     files: PlainTree,
     number: u64,
+    time: u64,
 }
 
 impl<M> Model for World<M> {
@@ -36,7 +38,7 @@ impl<M> Model for World<M> {
 
     ghost coded = { standing_code M.code };
 
-    ghost view = { λ world. record { machine = world.machine; files = world.files; number = world.number } };
+    ghost view = { λ world. record { machine = world.machine; files = world.files; number = world.number; time = world.time } };
 }
 
 impl<M: Machine> World<M> {
@@ -59,15 +61,16 @@ impl<M: Machine> World<M> {
                 machine,
                 files: mounted.files,
                 number: mounted.number,
+                time: 0,
             }),
             Err(why) => Err((why, machine)),
         }
     }
 
-    /// Does a file call at a moment in seconds. It is answered by the file rules, or `NoSpace` where the dump after it
+    /// Does a file call at a time in seconds, and says nothing. It is answered by the file rules, or `NoSpace` where the dump after it
     /// would be longer than 4,194,304 bytes and longer than before. `Sync` keeps the files on the disk, and is answered
-    /// `Eio` where a write or a sync failed. Want of memory changes nothing.
-    pub fn line(&mut self, alloc: Global, line: &Line, _now: u64) -> Said
+    /// `Eio` where a write or a sync failed. Want of memory changes no file.
+    pub fn line(&mut self, alloc: Global, line: &Line, now: u64) -> Said
         requires call { IsTrue (is_file_call line.now) }
         requires room { 2112 ≤ M.blocks self.old.machine }
         requires ready { IsReady self.old }
@@ -78,9 +81,12 @@ impl<M: Machine> World<M> {
         ensures saving { Runs (M.history self.old.machine) (M.history self.new.machine) (IsSaving (M.blocks self.old.machine) self.old.number self.old.files.tree) }
         ensures faults { HasCause (M.faults self.old.machine) (M.faults self.new.machine) (answer_part result) }
         ensures write_faults { HasCause (M.write_faults self.old.machine) (M.write_faults self.new.machine) (answer_part result) }
+        ensures silent { SaysNothing (M.history self.old.machine) (M.history self.new.machine) }
+        ensures time { self.new.time ≡ now }
         ensures blocks { M.blocks self.new.machine ≡ M.blocks self.old.machine }
         ensures say_faults { M.say_faults self.new.machine ≡ M.say_faults self.old.machine }
     {
+        self.time = now;
         let Line::File(call) = line else {
             unreachable!()
         };
@@ -95,6 +101,7 @@ impl<M: Machine> World<M> {
     }
 
     /// Keeps the files on the disk under the next number. A number that has no next one wants memory.
+    #[tactic(auto, using(crate::proofs::Silence::says_nothing))]
     fn sync(&mut self, alloc: Global) -> Result<(), CloseFault>
         requires room { 2112 ≤ M.blocks self.old.machine }
         requires ready { IsReady self.old }
@@ -104,6 +111,8 @@ impl<M: Machine> World<M> {
         ensures syncs { Syncs (M.blocks self.old.machine) self.old.number self.old.files.tree (M.history self.old.machine) (M.history self.new.machine) self.new.number result }
         ensures faults { HasCause (M.faults self.old.machine) (M.faults self.new.machine) (device_part result) }
         ensures write_faults { HasCause (M.write_faults self.old.machine) (M.write_faults self.new.machine) (device_part result) }
+        ensures silent { SaysNothing (M.history self.old.machine) (M.history self.new.machine) }
+        ensures time { self.new.time ≡ self.old.time }
         ensures blocks { M.blocks self.new.machine ≡ M.blocks self.old.machine }
         ensures say_faults { M.say_faults self.new.machine ≡ M.say_faults self.old.machine }
     {
@@ -128,6 +137,7 @@ impl<M: Machine> World<M> {
         ensures saving { Runs (M.history self.machine) (M.history result.1) (IsSaving (M.blocks self.machine) self.number self.files.tree) }
         ensures faults { HasCause (M.faults self.machine) (M.faults result.1) (device_part result.0) }
         ensures write_faults { HasCause (M.write_faults self.machine) (M.write_faults result.1) (device_part result.0) }
+        ensures silent { SaysNothing (M.history self.machine) (M.history result.1) }
         ensures blocks { M.blocks result.1 ≡ M.blocks self.machine }
         ensures say_faults { M.say_faults result.1 ≡ M.say_faults self.machine }
     {
@@ -142,6 +152,7 @@ impl<M: Machine> World<M> {
         ensures part { OnErr result (SaysSome (M.history self.old.machine) (M.history self.new.machine) bytes.now) }
         ensures files { self.new.files ≡ self.old.files }
         ensures number { self.new.number ≡ self.old.number }
+        ensures time { self.new.time ≡ self.old.time }
         ensures blocks { M.blocks self.new.machine ≡ M.blocks self.old.machine }
         ensures faults { M.faults self.new.machine ≡ M.faults self.old.machine }
         ensures write_faults { M.write_faults self.new.machine ≡ M.write_faults self.old.machine }

@@ -1,6 +1,8 @@
 use Rattle.std.proofs.Common.{◌≡◌, ◌≤◌, ◌+◌, ◌-◌}
+use Rattle.std.specs.Prelude.{option_map}
 use Rattle.std.specs.Io.KnownBytes.{prepend_known}
 use Rattle.hl_world.specs.Worlds.{IsReady}
+use Rattle.highlight.specs.Clocks.{times_after}
 use Rattle.highlight.specs.Turn.{held}
 use Rattle.highlight.proofs.Turning.{Stands}
 use Rattle.highlight.proofs.run.run.Given as goal
@@ -9,14 +11,16 @@ abbrev pub invariant-turns : goal.invariant-turns
 invariant-turns g l = record {
   counted : l.lines.used ≤ 4294967296;
   limit : l.lines.limit ≡ 4294967296;
+  some : 1 ≤ l.n;
   few : l.n ≤ l.lines.used + 1;
+  took : g.C.Clock.times l.clock ≡ option_map (times_after (l.n - 1)) (g.C.Clock.times l.fn.clock);
   input_later : g.S.Source.faults l.fn.input ≤ g.S.Source.faults l.input;
   output_later : g.M.Machine.say_faults l.fn.world.machine ≤ g.M.Machine.say_faults l.world.machine;
   disk_later : (g.M.Machine.faults l.fn.world.machine ≤ g.M.Machine.faults l.world.machine) × (g.M.Machine.write_faults l.fn.world.machine ≤ g.M.Machine.write_faults l.world.machine);
   blocks : g.M.Machine.blocks l.world.machine ≡ g.M.Machine.blocks l.fn.world.machine;
   ready : IsReady l.world;
   stands :
-      Stands (g.M.Machine.blocks l.fn.world.machine) (held l.fn.world) (held l.world) (g.S.Source.left l.fn.input) (prepend_known l.lines.held (g.S.Source.left l.input)) l.n l.lines.used
+      Stands (g.C.Clock.times l.fn.clock) (g.M.Machine.blocks l.fn.world.machine) (held l.fn.world) (held l.world) (g.S.Source.left l.fn.input) (prepend_known l.lines.held (g.S.Source.left l.input)) l.n l.lines.used
       (g.M.Machine.history l.fn.world.machine) (g.M.Machine.history l.world.machine);
 }
 

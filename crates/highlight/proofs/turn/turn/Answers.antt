@@ -1,10 +1,12 @@
-use Rattle.std.proofs.Common.{◌≤◌, subst}
+use Rattle.std.proofs.Common.{◌≤◌, ℕ, ap, sym, subst}
 use Rattle.std.specs.Io.KnownBytes.{prepend_known}
 use Rattle.hl_media.specs.History.{state_now}
 use Rattle.hl_media.proofs.Runs.{starts}
 use Rattle.hl_disk.specs.Saves.{IsSaving}
 use Rattle.hl_disk.proofs.Settled.{nothing_saved}
-use Rattle.highlight.specs.Turn.{held}
+use Rattle.highlight.specs.Clocks.{IsAsked}
+use Rattle.highlight.specs.Turn.{Held, held}
+use Rattle.highlight.proofs.Clocks.{asks_told}
 use Rattle.highlight.proofs.OneTurn.{told_at, wanted}
 use Rattle.highlight.proofs.turn.turn.Goals as goal
 
@@ -22,3 +24,10 @@ returns-in-Ok-clause-turns g c =
     (g.M.Machine.say_faults c.args.world.now.machine) (g.M.Machine.say_faults c.answer.new.world.machine) (g.M.Machine.say_faults c.tell.new.world.machine)
     (prepend_known c.args.lines.now.held (g.S.Source.left c.args.input.now)) c.tell.result
     given cut counted c.deref.ensures.value c.in-Ok.ensures.ok c.in-Ok.ensures.saving c.in-Ok.ensures.say_faults c.tell.ensures.held c.tell.ensures.tells
+
+pub returns-in-Ok-clause-clock : goal.returns-in-Ok-clause-clock
+returns-in-Ok-clause-clock g c =
+    let same = ap (λ (h : Held). h.time) c.tell.ensures.held in
+    asks_told _ c.in-Ok.told.text.items c.in-Ok.told.broken (g.M.Machine.history c.answer.new.world.machine) (g.M.Machine.history c.tell.new.world.machine)
+    (g.C.Clock.times c.args.clock.now) (g.C.Clock.times c.answer.new.clock) c.tell.new.world.time c.tell.result c.tell.ensures.tells
+    (subst (λ (t : ℕ). IsAsked (g.C.Clock.times c.args.clock.now) (g.C.Clock.times c.answer.new.clock) t) (sym same) c.in-Ok.ensures.clock)

@@ -4,9 +4,9 @@ use Rattle.hl_bytes.specs.Records.{table_record_bytes}
 use Rattle.hl_bytes.proofs.Places.{written_on}
 use Rattle.hl_bytes.proofs.records.put_table_record.Goals as goal
 
-pub returns : goal.returns
+pub returns-clause-bytes : goal.returns-clause-bytes
 unfolding table_record_bytes le32 le64 zeros
-returns c =
+returns-clause-bytes c =
     let r = c.args.change.now in
     let old = c.args.bytes.now in
     let at = c.args.at in

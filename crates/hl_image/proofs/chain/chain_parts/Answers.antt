@@ -1,5 +1,5 @@
 use Rattle.std.proofs.Common.{◌≡◌, ◌+◌, ◌∙◌, ◌++◌, ◌∷◌, [], ℕ, true, false, List, length, ap, subst, sym, refl, take, arith, IsNone}
-use Rattle.hl_media.specs.History.{block_of}
+use Rattle.hl_bytes.specs.Buffers.{block_of}
 use Rattle.hl_image.specs.declared.chain.ChainPart.{ChainPart}
 use Rattle.hl_image.specs.Newest.{start_of}
 use Rattle.hl_image.specs.Parts.{next_of}

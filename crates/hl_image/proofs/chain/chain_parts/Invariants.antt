@@ -1,5 +1,5 @@
 use Rattle.std.proofs.Common.{◌-◌, ◌^◌}
-use Rattle.hl_media.specs.History.{block_of}
+use Rattle.hl_bytes.specs.Buffers.{block_of}
 use Rattle.hl_image.specs.Newest.{start_of}
 use Rattle.hl_image.proofs.Walking.{Walked}
 use Rattle.hl_image.proofs.chain.chain_parts.Given as goal

@@ -1,5 +1,5 @@
 use Rattle.std.proofs.Common.{◌≡◌, ◌↔◌, ◌≤◌, ◌*◌, ap, refl, arith, Some, IsNone}
-use Rattle.hl_media.specs.History.{block_of}
+use Rattle.hl_bytes.specs.Buffers.{block_of}
 use Rattle.hl_addr.specs.Layout.{Layout}
 use Rattle.hl_summary.specs.declared.parts.Summary.{Summary}
 use Rattle.hl_summary.specs.Parts.{Spells}

@@ -11,7 +11,7 @@ returns-then-is_spelled c =
     let P = Spells c.args.bytes.now in
     let found : (v : Inode) → (Some x ≡ Some v) ↔ P v =
     accepted P x c.is_spelled.result c.if-is_spelled.true
-    (λ t. let p = c.is_spelled.ensures.0 t in record { value = has_room c.args.bytes.now x (λ i. omega (arith, c.type_inv.bytes i)) c.inode_in-inode.ensures p.0; bytes = p.1 })
+    (λ t. let p = c.is_spelled.ensures.0 t in record { value = record { ranges = p.0; room = has_room c.args.bytes.now x (λ i. omega (arith, c.type_inv.bytes i)) c.inode_in-inode.ensures }; bytes = p.1 })
     (only c.args.bytes.now x c.inode_in-inode.ensures) in
     record { found = found; none = none_exactly P (Some x) found }
 

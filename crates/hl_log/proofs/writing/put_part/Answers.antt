@@ -1,6 +1,7 @@
 use Rattle.std.proofs.Common.{arith}
 use Rattle.std.proofs.Math.Nat.{mul-le-mul_left}
 use Rattle.hl_log.proofs.Wraps.{put_runs, put_ends}
+use Rattle.hl_log.proofs.Silence.{write_silent, write_synced}
 use Rattle.hl_log.proofs.writing.put_part.Goals as goal
 
 pub write_synced-requires-clause-within : goal.write_synced-requires-clause-within
@@ -17,3 +18,9 @@ pub returns-clause-put : goal.returns-clause-put
 returns-clause-put g c =
     let did = rw c.block_at.ensures.value at c.write_synced.ensures.did in
     put_ends c.args.geometry.now _ _ c.args.log _ _ c.requires.settled c.args.next did
+
+pub returns-clause-silent : goal.returns-clause-silent
+returns-clause-silent g c = write_silent _ _ _ _ _ c.write_synced.ensures.did
+
+pub returns-clause-synced : goal.returns-clause-synced
+returns-clause-synced g c = write_synced _ _ _ _ _ c.write_synced.ensures.did

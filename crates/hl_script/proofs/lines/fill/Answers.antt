@@ -20,5 +20,5 @@ reads-preserved g c =
           c.held-bytes.ensures.is c.reads.invariant.before c.reads.invariant.none c.first_place.ensures.place
           (omega (arith, length-take {A = ℕ}, length-drop {A = ℕ}));
       same = held_on _ _ _ c.reads.held read.0 c.read.new.self read.1 c.reads.invariant.same read.3;
-      quiet = c.in_ok-read.ensures.quiet ∙ c.reads.invariant.quiet;
+      quiet = c.in_ok-read.ensures.faults.kept ∙ c.reads.invariant.quiet;
     }

@@ -23,6 +23,6 @@ returns-clause-work g c = let h = c.requires.ready in let m = c.args.seat.now.me
         made = c.step.ensures.does;
         grows = own.1;
         owned = own.2;
-        jobs = λ p f met apart. let r : IsReady o.legal_over o.jobs_out o.meets o.asks o.brings o.returns p x m.0.number m.0.holds c.args.event = record { legal = f; may = h.3.may; met = met; apart = apart } in (c.step.ensures.legal p m.0.number m.0.holds r, c.step.ensures.jobs p m.0.number m.0.holds r);
+        jobs = λ p f met apart once. let r : IsReady o.legal_over o.jobs_out o.meets o.asks o.brings o.returns p x m.0.number m.0.holds c.args.event = record { legal = f; may = h.3.may; met = met; apart = apart; once = once } in (c.step.ensures.legal p m.0.number m.0.holds r, c.step.ensures.jobs p m.0.number m.0.holds r);
       },
     )

@@ -3,7 +3,4 @@ use Rattle.hl_media.specs.History.DeviceCall.{Read}
 use Rattle.hl_host.proofs.machine.FileMachineMachine.read.Goals as goal
 
 pub returns-then-is_ok-clause-did : goal.returns-then-is_ok-clause-did
-returns-then-is_ok-clause-did c = record { calls = (Read) ∷ []; did = (Read, refl, refl); is = refl }
-
-pub returns-clause-faults : goal.returns-clause-faults
-returns-clause-faults c = record { later = c.raise.ensures.later; failed = c.raise.ensures.rose; kept = tt }
+returns-then-is_ok-clause-did g c = record { calls = Read ∷ []; did = (Read, refl, refl); is = refl }

@@ -3,7 +3,4 @@ use Rattle.hl_media.specs.History.DeviceCall.{Say}
 use Rattle.hl_host.proofs.machine.FileMachineMachine.say.Goals as goal
 
 pub returns-then-is_ok-clause-did : goal.returns-then-is_ok-clause-did
-returns-then-is_ok-clause-did c = record { calls = (Say c.args.bytes.now) ∷ []; did = (Say c.args.bytes.now, refl, refl); is = refl }
-
-pub returns-clause-say_faults : goal.returns-clause-say_faults
-returns-clause-say_faults c = record { later = c.raise.ensures.later; failed = c.raise.ensures.rose; kept = tt }
+returns-then-is_ok-clause-did g c = record { calls = Say c.args.bytes.now ∷ []; did = (Say c.args.bytes.now, refl, refl); is = refl }

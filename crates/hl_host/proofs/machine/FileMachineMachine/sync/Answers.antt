@@ -3,10 +3,4 @@ use Rattle.hl_media.specs.History.DeviceCall.{Sync}
 use Rattle.hl_host.proofs.machine.FileMachineMachine.sync.Goals as goal
 
 pub returns-then-is_ok-clause-did : goal.returns-then-is_ok-clause-did
-returns-then-is_ok-clause-did c = record { calls = (Sync true) ∷ []; did = (Sync true, refl, refl); is = refl }
-
-pub returns-clause-faults : goal.returns-clause-faults
-returns-clause-faults c = record { later = c.raise.ensures.later; failed = c.raise.ensures.rose; kept = tt }
-
-pub returns-clause-write_faults : goal.returns-clause-write_faults
-returns-clause-write_faults c = record { later = c.raise-2.ensures.later; failed = c.raise-2.ensures.rose; kept = tt }
+returns-then-is_ok-clause-did g c = record { calls = Sync true ∷ []; did = (Sync true, refl, refl); is = refl }

@@ -1,5 +1,6 @@
 use Rattle.std.proofs.Common.{◌≡◌, ◌+◌, ◌*◌, ◌-◌, ℕ, length, take, drop, List, sym, ◌∙◌, ap, arith}
-use Rattle.hl_media.specs.History.{History, content, block_of}
+use Rattle.hl_bytes.specs.Buffers.{block_of}
+use Rattle.hl_media.specs.History.{History, content}
 use Rattle.hl_media.specs.History.DeviceCall.{Read}
 use Rattle.hl_mem.specs.Told.{Told, history_of}
 use Rattle.hl_mem.proofs.Parts.{slice_block}

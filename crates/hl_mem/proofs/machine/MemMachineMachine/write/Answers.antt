@@ -2,7 +2,8 @@ use Rattle.std.proofs.Common.{◌≡◌, ◌+◌, ◌*◌, ◌-◌, ◌/◌, ◌
 use Rattle.std.specs.Vec.{with_items}
 use Rattle.std.proofs.lemmas.List.{with_items_is}
 use borrow.Rule.Slice.PartMut.{put_mid}
-use Rattle.hl_media.specs.History.{DeviceCall, IsWhole, overwritten, block_of}
+use Rattle.hl_bytes.specs.Buffers.{block_of}
+use Rattle.hl_media.specs.History.{DeviceCall, IsWhole, overwritten}
 use Rattle.hl_media.specs.History.DeviceCall.{Write}
 use Rattle.hl_mem.specs.Told.{Told}
 use Rattle.hl_mem.specs.Kept.{IsKept}

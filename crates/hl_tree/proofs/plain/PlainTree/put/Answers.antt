@@ -1,4 +1,4 @@
-use Rattle.std.proofs.Common.{◌≡◌, ◌≤◌, ◌<◌, ◌+◌, List, ℕ, Result, Ok, Err, OnOk, OnErr, subst, sym, arith}
+use Rattle.std.proofs.Common.{◌≡◌, ◌≤◌, ◌<◌, List, ℕ, Result, Ok, Err, OnOk, OnErr, subst, sym, arith}
 use Rattle.std.specs.FinMap.{FinMap, insert, len}
 use Rattle.hl_tree.specs.Names.{path_cmp}
 use Rattle.hl_tree.proofs.Room.{len-insert-le}

@@ -1,4 +1,4 @@
-use Rattle.std.proofs.Common.{◌<◌, ◌^◌, refl, sym, subst, inl, inr}
+use Rattle.std.proofs.Common.{◌≡◌, ◌<◌, ◌^◌, refl, sym, subst, inl, inr}
 use Rattle.hl_media.specs.History.{state_now}
 use Rattle.hl_media.proofs.Runs.{starts}
 use Rattle.hl_disk.specs.Saves.{IsSaving}
@@ -17,6 +17,12 @@ returns-in_default-call g c =
       saving = starts (g.M.Machine.history c.self.inside.machine) (IsSaving _ _ _) (λ h e. nothing_saved _ _ _ (state_now h));
       faults = stays _ c.call.result c.call.ensures.quiet;
       write_faults = stays _ c.call.result c.call.ensures.quiet;
+      silent = starts (g.M.Machine.history c.self.inside.machine) (λ first s. s.said ≡ first.said) (λ h e. refl);
+      time = refl;
       blocks = refl;
       say_faults = refl;
     }))
+
+pub returns-in-Ok-clause-disk : goal.returns-in-Ok-clause-disk
+returns-in-Ok-clause-disk g c =
+    rw (← c.self.view_is) (rw (c.in-File.is, c.in-Sync.is) (inl (refl, c.in-Ok.ensures.syncs.0, c.in-Ok.ensures.syncs.1)))

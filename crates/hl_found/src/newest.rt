@@ -1,0 +1,58 @@
+//! The newest record of an image.
+
+ghost use Rattle.std.specs.Prelude.{◌≡◌, ◌+◌, ◌*◌, ◌≤◌, ◌↔◌, length, IsTrue, IfOk};
+ghost use Rattle.hl_bytes.specs.Buffers.{block_of};
+ghost use Rattle.hl_image.specs.Newest.{IsNewest, label_of};
+ghost use Rattle.hl_image.specs.Places.{log_end};
+
+use hl_addr::Geometry;
+use hl_bytes::BLOCK;
+use hl_super::{Label, Record, decode_record, newest};
+use std::alloc::{AllocError, Global};
+
+/// The bytes of a block of the image.
+#[tactic(auto, unfolding(hl_bytes::specs::Buffers::block_of))]
+pub(crate) fn block_at<'a>(image: &'a [u8], address: u32) -> &'a [u8]
+    requires { 4096 * (address + 1) ≤ length image.now }
+    ensures bytes { result.now ≡ block_of image.now address }
+    ensures size { length result.now ≡ 4096 }
+{
+    let from = BLOCK * address as usize;
+    &image[from..from + BLOCK]
+}
+
+/// The label of a site.
+pub(crate) fn label_of(geometry: &Geometry) -> Label
+    ensures label { result ≡ label_of geometry.now }
+    ensures records { 12288 ≤ 4096 * log_end geometry.now }
+{
+    Label {
+        k: geometry.k,
+        log: geometry.log,
+        lines: geometry.lines,
+        inodes: geometry.inodes,
+    }
+}
+
+/// The newest record of the image, of those with the site's label. The image has at least the log's
+/// segments.
+pub(crate) fn newest_record(
+    alloc: Global,
+    image: &[u8],
+    geometry: &Geometry,
+) -> Result<Option<Record>, AllocError>
+    requires { 4096 * log_end geometry.now ≤ length image.now }
+    ensures { IfOk result (IsNewest geometry.now (block_of image.now)) }
+{
+    let label = label_of(geometry);
+    let first = decode_record(alloc, block_at(image, 1), 1, &label)?;
+    let second = decode_record(alloc, block_at(image, 2), 2, &label)?;
+    Ok(newest(first, second))
+}
+
+/// Whether the record has the site's volumes.
+pub(crate) fn has_volumes(rec: &Record, geometry: &Geometry) -> bool
+    ensures { IsTrue result ↔ rec.now.volumes ≡ geometry.now.volumes }
+{
+    rec.volumes.items() == geometry.volumes.items()
+}

@@ -1,0 +1,5 @@
+pub mod IndexLemmas
+pub mod Uses
+pub mod Changes
+pub mod Tables
+pub mod Lookups

@@ -1,0 +1,4 @@
+pub mod Lines
+pub mod LineTable
+pub mod Index
+pub mod Indexes

@@ -1,6 +1,0 @@
-use Rattle.std.proofs.Common.{◌<◌, ◌^◌, arith}
-use Rattle.std.proofs.lemmas.List.Elements.{All-from_get_or, recursion_from_All}
-use Rattle.hl_log.proofs.checkpoint.are_all_u32.Goals as goal
-
-pub returns : goal.returns
-returns c = recursion_from_All (λ n. n < 2 ^ 32) c.args.numbers.now (All-from_get_or (λ n. n < 2 ^ 32) c.args.numbers.now 0 (λ i lt. omega (arith, c.type_inv.numbers i)))

@@ -1,0 +1,151 @@
+-- Whole runs in plain.
+use Rattle.std.proofs.Common.{arith, ◌≡◌, ℕ, ◌-◌, ◌^◌, ◌<◌, List, [], ◌∷◌, Option, Some, None, Ok, Err, refl, ap, ◌∙◌, sym, subst, inl, inr}
+use Rattle.std.specs.FinMap.{insert}
+use Rattle.hl_tree.specs.declared.call.Call.{Call}
+use Rattle.hl_tree.specs.Tree.{IsTree}
+use Rattle.hl_tree.specs.Rules.{outcome, after}
+use Rattle.hl_tree_laws.proofs.After.{IsTree-after}
+use Rattle.hl_model.specs.Answers as answers
+use Rattle.hl_placed.proofs.Kept.{ArePlaced-placed_after, serials-placed_after}
+use Rattle.hl_placed.proofs.Staging.{ArePlaced-new_serial, ArePlaced-staged, serials-put_away}
+use Rattle.hl_model.proofs.Steps.{core, Keeps, told_keeps, keeps_rules, fits_rules}
+use Rattle.hl_placed.specs.Blocks.{Shelf, SerialsBelow}
+use Rattle.hl_placed.specs.Placed.{PlacedTree, plain, ArePlaced, EachFile}
+use Rattle.hl_placed.specs.Calls.{placed_after}
+use Rattle.hl_placed.specs.Staging.{IsNewSerial, HoldsBlocks, put_away}
+use Rattle.hl_addr.specs.Layout.{Layout}
+use Rattle.hl_model.specs.Site.{SiteState, next}
+use Rattle.hl_model.specs.Events.{SiteEvent, FileCall, Stage, EndJob}
+use Rattle.hl_model.specs.Answers.{SiteAnswer}
+use Rattle.hl_model.specs.Ruled.{Ruled, limits_of, told_of}
+use Rattle.hl_model.specs.Cleaning.{LogUse}
+use Rattle.hl_model.specs.FileCalls.{file_call}
+use Rattle.hl_model.specs.Stagings.{stage, chosen}
+use Rattle.hl_model.specs.Rules.{rules, running}
+use Rattle.hl_model.specs.Steps.{State, SiteStep, IsRuled, IsGivenUp, given_up}
+use Rattle.hl_model.specs.Runs.{shelf_after, plain_after, Writes, InPlain, IsSite, Stepped, Run, plain_run, AreReplies}
+
+module _ (g : Layout) (shelf : Shelf) (s : SiteState) (segment : List ℕ) (site : IsSite shelf s) (room : s.next_serial < 2 ^ 64 - 1) where
+  fresh : IsNewSerial s.next_serial s.tree
+  fresh path file i position there e = let less : s.next_serial < s.next_serial = site.serials path file there i s.next_serial position e in omega arith
+
+  -- the files and the serials of a site
+  abbrev Good : SiteAnswer → PlacedTree × ℕ → Type 0
+  Good answer c = ArePlaced (shelf_after shelf s.next_serial segment answer) c.0 × EachFile (SerialsBelow c.1) c.0
+
+  good_still : (answer : SiteAnswer) → Good answer (core g s s)
+  good_still (answers.Staged blocks volume slot line) = (ArePlaced-new_serial shelf s.next_serial segment s.tree fresh site.files, site.serials)
+  good_still answer = (site.files, site.serials)
+
+  good_told : (told : Ruled) → Keeps g s told → Good (told_of s told).0 (core g s (told_of s told).1)
+  good_told told keeps = subst (Good (told_of s told).0) (sym (told_keeps g s told keeps)) (good_still (told_of s told).0)
+
+  rises : s.next_serial < next s.next_serial
+  rises = omega arith
+
+  good_staged : (paths : List (List (List ℕ))) → HoldsBlocks (plain shelf s.tree) segment 1 (chosen g s paths) → (told : Ruled) → stage g s paths ≡ told → Good (told_of s told).0 (core g s (told_of s told).1)
+  unfolding stage
+  good_staged paths holds (Err answer) e = good_still answer
+  good_staged paths holds (Ok told) e =
+      let tree : told.1.tree ≡ put_away s.next_serial 1 (chosen g s paths) s.tree = grind arith in
+      let serial : told.1.next_serial ≡ next s.next_serial = grind arith in
+      let grown : shelf_after shelf s.next_serial segment told.0 ≡ insert shelf s.next_serial segment = grind arith in (
+        subst (λ sh. ArePlaced sh told.1.tree) (sym grown) (subst (ArePlaced (insert shelf s.next_serial segment)) (sym tree) (ArePlaced-staged shelf s.next_serial segment s.tree (chosen g s paths) site.files fresh holds)),
+        subst (λ n. EachFile (SerialsBelow n) told.1.tree) (sym serial) (subst (EachFile (SerialsBelow (next s.next_serial))) (sym tree)
+            (serials-put_away shelf (λ n. n < next s.next_serial) s.next_serial rises (chosen g s paths) 1 s.tree
+            (λ path file there i other position h. let less : other < s.next_serial = site.serials path file there i other position h in let up = rises in omega arith))),
+      )
+
+  good_called : (now : ℕ) (call : Call) (told : Ruled) → file_call g s shelf now call ≡ told → Good (told_of s told).0 (core g s (told_of s told).1)
+  unfolding file_call
+  good_called now call (Err answer) e = good_still answer
+  good_called now call (Ok told) e =
+      elim (outcome (limits_of g) (plain shelf s.tree) call) as (λ o. outcome (limits_of g) (plain shelf s.tree) call ≡ o → Good told.0 (core g s told.1)) [
+        | Err why ↦ λ f. let wrong : ⊥ = grind arith in absurd wrong
+        | Ok done ↦ λ f.
+            let tree : told.1.tree ≡ placed_after (limits_of g) shelf s.tree now call = grind arith in
+            let serial : told.1.next_serial ≡ s.next_serial = grind arith in
+            let says : told.0 ≡ answers.Done done.0 = grind arith in
+            let same : shelf_after shelf s.next_serial segment told.0 ≡ shelf = ap (shelf_after shelf s.next_serial segment) says in (
+              subst (λ sh. ArePlaced sh told.1.tree) (sym same) (subst (ArePlaced shelf) (sym tree) (ArePlaced-placed_after (limits_of g) shelf s.tree site.files site.tree now call)),
+              subst (λ n. EachFile (SerialsBelow n) told.1.tree) (sym serial) (subst (EachFile (SerialsBelow s.next_serial)) (sym tree) (serials-placed_after (limits_of g) shelf s.tree site.files site.tree (λ n. n < s.next_serial) site.serials now call)),
+            )
+      ] refl
+
+  good_running : (stopped : Option ℕ) (told : Ruled) → Good (told_of s told).0 (core g s (told_of s told).1) → Good (told_of s (running stopped told)).0 (core g s (told_of s (running stopped told)).1)
+  good_running None told good = good
+  good_running (Some faults) told good = good_still (answers.Stopped faults)
+
+  good_rules : (log : LogUse) (event : SiteEvent) → Writes g shelf s segment event → Good (told_of s (rules g s log shelf event)).0 (core g s (told_of s (rules g s log shelf event)).1)
+  good_rules log (FileCall now call) writes = good_running s.stopped (file_call g s shelf now call) (good_called now call (file_call g s shelf now call) refl)
+  good_rules log (Stage paths) writes = good_running s.stopped (stage g s paths) (good_staged paths writes (stage g s paths) refl)
+  good_rules log event writes = good_told (rules g s log shelf event) (keeps_rules g s log shelf event refl)
+
+  -- what a step that is told leaves is a site
+  plain_is_tree : (event : SiteEvent) (answer : SiteAnswer) → IsTree (plain_after g (plain shelf s.tree) event answer)
+  plain_is_tree (FileCall now call) (answers.Done said) = IsTree-after (limits_of g) (plain shelf s.tree) site.tree call
+  plain_is_tree event answer = site.tree
+
+  abbrev Next : SiteEvent → SiteAnswer × SiteState → Type 0
+  Next event told = InPlain g shelf s segment event told.0 told.1 × IsSite (shelf_after shelf s.next_serial segment told.0) told.1
+
+  next_by : (event : SiteEvent) (told : SiteAnswer × SiteState) → InPlain g shelf s segment event told.0 told.1 → Good told.0 (core g s told.1) → Next event told
+  next_by event told fits good = (fits, record { tree = subst IsTree (sym fits.tree) (plain_is_tree event told.0); files = good.0; serials = good.1 })
+
+  next_rules : (log : LogUse) (event : SiteEvent) → Writes g shelf s segment event → Next event (told_of s (rules g s log shelf event))
+  next_rules log event writes = next_by event (told_of s (rules g s log shelf event)) (fits_rules g shelf s segment site.tree site.files fresh log event writes) (good_rules log event writes)
+
+  -- what a step that gives up leaves is a site with the same tree
+  next_given_up : (event : SiteEvent) (answer : SiteAnswer) → (plain_after g (plain shelf s.tree) event answer ≡ plain shelf s.tree) → ((said : _) → answer ≡ answers.Done said → ⊥) → (shelf_after shelf s.next_serial segment answer ≡ shelf) → (new : SiteState) → core g s new ≡ core g s s → Next event (answer, new)
+  next_given_up event answer stays other same new keeps =
+      next_by event (answer, new) (record {
+        tree = (λ i. plain (same i) (keeps i).0) ∙ sym stays;
+        reply = λ now call said e f. absurd (other said f);
+      }) (subst (Good answer) (sym keeps) (good_still answer))
+
+  given_up_core : (event : SiteEvent) → core g s (given_up g s event) ≡ core g s s
+  given_up_core (EndJob job) = refl
+  given_up_core event = refl
+
+  memory_stays : (event : SiteEvent) → plain_after g (plain shelf s.tree) event answers.Memory ≡ plain shelf s.tree
+  memory_stays (FileCall now call) = refl
+  memory_stays event = refl
+
+  full_stays : (event : SiteEvent) → plain_after g (plain shelf s.tree) event answers.LogFull ≡ plain shelf s.tree
+  full_stays (FileCall now call) = refl
+  full_stays event = refl
+
+  fault_stays : (event : SiteEvent) → plain_after g (plain shelf s.tree) event answers.Eio ≡ plain shelf s.tree
+  fault_stays (FileCall now call) = refl
+  fault_stays event = refl
+
+module _ (g : Layout) (shelf : Shelf) (segment : List ℕ) (before : State) (event : SiteEvent) (after : State) (site : IsSite shelf before.site) (room : before.site.next_serial < 2 ^ 64 - 1) (writes : Writes g shelf before.site segment event) (runs : after.site.stopped ≡ None) where
+  gives_up : (answer : SiteAnswer) → (plain_after g (plain shelf before.site.tree) event answer ≡ plain shelf before.site.tree) → ((said : _) → answer ≡ answers.Done said → ⊥) → (shelf_after shelf before.site.next_serial segment answer ≡ shelf)
+      → IsGivenUp g before event after → Next g shelf before.site segment site room event (answer, after.site)
+  gives_up answer stays other same up = next_given_up g shelf before.site segment site room event answer stays other same after.site
+      (ap (core g before.site) up.left ∙ given_up_core g shelf before.site segment site room event)
+
+  by_rules : (answer : SiteAnswer) → IsRuled g shelf before event answer after → Next g shelf before.site segment site room event (answer, after.site)
+  by_rules answer told = subst (Next g shelf before.site segment site room event) told.told (next_rules g shelf before.site segment site room told.log event writes)
+
+  -- one step in which no write failed
+  pub step_in_plain : (answer : SiteAnswer) → SiteStep g shelf before event answer after → InPlain g shelf before.site segment event answer after.site × IsSite (shelf_after shelf before.site.next_serial segment answer) after.site
+  step_in_plain answers.Memory (may, step) = gives_up answers.Memory (memory_stays g shelf before.site segment site room event) (λ said e. cc) refl step
+  step_in_plain answers.LogFull (may, step) = gives_up answers.LogFull (full_stays g shelf before.site segment site room event) (λ said e. cc) refl step
+  step_in_plain answers.Eio (may, rose, inl up) = gives_up answers.Eio (fault_stays g shelf before.site segment site room event) (λ said e. cc) refl up
+  step_in_plain answers.Eio (may, rose, inr broken) = let differ : Some after.faults ≡ None = sym broken.stopped ∙ runs in cc
+  step_in_plain answer step = by_rules answer step
+
+-- In a run each reply is that of plain files, and the plain tree is that which the calls leave.
+module _ (g : Layout) where
+  pub run_in_plain : (shelf : Shelf) (before : State) (entries : List Stepped) (last : Shelf) (after : State) → IsSite shelf before.site → Run g shelf before entries last after
+      → (plain last after.site.tree ≡ plain_run g (plain shelf before.site.tree) entries) × AreReplies g (plain shelf before.site.tree) entries × IsSite last after.site
+  run_in_plain shelf before [] last after site run =
+      ((λ i. plain (run.0 i) (run.1 i).site.tree), tt, subst (λ sh. IsSite sh after.site) (sym run.0) (subst (λ (st : State). IsSite shelf st.site) (sym run.1) site))
+  run_in_plain shelf before (entry ∷ entries) last after site (mid, step, runs, room, writes, rest) =
+      let one = step_in_plain g shelf entry.segment before entry.event mid site room writes runs entry.answer step in
+      let more = run_in_plain (shelf_after shelf before.site.next_serial entry.segment entry.answer) mid entries last after one.1 rest in (
+        more.0 ∙ ap (λ t. plain_run g t entries) one.0.tree,
+        (one.0.reply, subst (λ t. AreReplies g t entries) one.0.tree more.1),
+        more.2,
+      )

@@ -1,0 +1,137 @@
+-- The laws of a site, which the functions of this crate have as their contracts.
+use Rattle.std.specs.Prelude.{◌≡◌, ℕ, ◌-◌, ◌^◌, ◌<◌, ◌≤◌, Bool, true, List, length, None, Some, Ok, Err, get_or}
+use Rattle.hl_addr.specs.Layout.{Layout, IsLineCount}
+use Rattle.hl_placed.specs.Blocks.{Shelf}
+use Rattle.hl_placed.specs.Placed.{PlacedTree, plain}
+use Rattle.hl_model.specs.Allowed.{IsAllowed}
+use Rattle.hl_model.specs.Answers.{SiteAnswer}
+use Rattle.hl_model.specs.Answers as answers
+use Rattle.hl_model.specs.Begins.{begin_need}
+use Rattle.hl_media.specs.declared.job.JobNote.{JobNote}
+use Rattle.hl_model.specs.Cache.{AreCleanLines, IsCache, IsOut}
+use Rattle.hl_model.specs.Claims.{Claim, IsNoGreater, MeetsClaim, claim_of}
+use Rattle.hl_model.specs.Cleaning.{AreEmptied, LogUse}
+use Rattle.hl_model.specs.Events.{SiteEvent, Back, EndJob, ends_no_job}
+use Rattle.hl_model.specs.InSlots.{AreInSlots}
+use Rattle.hl_model.specs.Keeping.{AreHeld, BringsBack, Follow, JobsFollow}
+use Rattle.hl_lines.specs.declared.state.LineState.TheVariants.{Empty, Staging}
+use Rattle.hl_lines.specs.Lines.{segment_of}
+use Rattle.hl_model.specs.Mounted.{AreOpeningTables, OpeningTables, mounted}
+use Rattle.hl_model.specs.Ruled.{told_of}
+use Rattle.hl_model.specs.Rules.{rules}
+use Rattle.hl_model.specs.Runs.{AreReplies, IsSite, Run, Stepped, Writes, plain_run, shelf_after}
+use Rattle.hl_model.specs.Shelves.{JobOut, KeepsShelf}
+use Rattle.hl_model.specs.Site.{SiteState}
+use Rattle.hl_model.specs.Steps.{SiteStep, State}
+
+-- WHOLE RUNS
+
+-- nothing but the file calls changes the plain tree
+abbrev pub RunsArePlain : Type 0
+RunsArePlain = (g : Layout) (shelf : Shelf) (before : State) (steps : List Stepped) (last : Shelf) (after : State)
+    → IsSite shelf before.site → Run g shelf before steps last after
+    → plain last after.site.tree ≡ plain_run g (plain shelf before.site.tree) steps
+
+-- each reply is that of plain files
+abbrev pub RepliesArePlain : Type 0
+RepliesArePlain = (g : Layout) (shelf : Shelf) (before : State) (steps : List Stepped) (last : Shelf) (after : State)
+    → IsSite shelf before.site → Run g shelf before steps last after
+    → AreReplies g (plain shelf before.site.tree) steps
+
+-- the state stays one of a site
+abbrev pub RunsStaySites : Type 0
+RunsStaySites = (g : Layout) (shelf : Shelf) (before : State) (steps : List Stepped) (last : Shelf) (after : State)
+    → IsSite shelf before.site → Run g shelf before steps last after → IsSite last after.site
+
+-- LINES, SLOTS AND JOBS
+
+-- no event but the end of a job takes a line out of staging
+abbrev pub StagingStays : Type 0
+StagingStays = (g : Layout) (s : SiteState) → AreCleanLines s.lines s.order
+    → (line t : ℕ) → get_or s.lines line Empty ≡ Staging t
+    → (log : LogUse) (shelf : Shelf) (event : SiteEvent) → ends_no_job event ≡ true
+    → (answer : SiteAnswer) (new : SiteState) → rules g s log shelf event ≡ Ok (answer, new)
+    → get_or new.lines line Empty ≡ Staging t
+
+-- a step in which no write failed keeps what holds of lines, slots and jobs
+abbrev pub CachesStay : Type 0
+CachesStay = (g : Layout) (shelf : Shelf) (before : State) (event : SiteEvent) (answer : SiteAnswer) (after : State)
+    → IsCache g before.site → IsAllowed before.site event → before.site.next_serial < 2 ^ 64 - 1
+    → after.site.stopped ≡ None → SiteStep g shelf before event answer after → IsCache g after.site
+
+-- it holds of the site that a mount gives
+abbrev pub MountsGiveCaches : Type 0
+MountsGiveCaches = (g : Layout) (tree : PlacedTree) (tables : OpeningTables) (counts : List ℕ)
+    → AreOpeningTables g tables → length counts ≡ length g.volumes → IsCache g (mounted g tree tables counts)
+
+-- one line holds a segment
+abbrev pub SegmentsHaveOneLine : Type 0
+SegmentsHaveOneLine = (g : Layout) (s : SiteState) → IsCache g s → (line other t : ℕ)
+    → segment_of (get_or s.lines line Empty) ≡ Some t → segment_of (get_or s.lines other Empty) ≡ Some t
+    → line ≡ other
+
+-- a fetch always finds a line
+abbrev pub FetchesFindLines : Type 0
+FetchesFindLines = (g : Layout) (s : SiteState) → IsCache g s → IsLineCount g.lines
+    → (t : ℕ) (keep : List ℕ) → length keep ≤ 8 → begin_need g s t keep ≡ Err answers.NoLine → ⊥
+
+-- and no job that comes back is stale
+abbrev pub JobsAreNotStale : Type 0
+JobsAreNotStale = (g : Layout) (s : SiteState) → IsCache g s
+    → (log : LogUse) (shelf : Shelf) (job : Back) → IsAllowed s (EndJob job)
+    → (told_of s (rules g s log shelf (EndJob job))).0 ≡ answers.Stale → ⊥
+
+-- in such a step each away block stays in a segment that a slot holds
+abbrev pub AwayBlocksStayInSlots : Type 0
+AwayBlocksStayInSlots = (g : Layout) (shelf : Shelf) (before : State) (event : SiteEvent) (answer : SiteAnswer) (after : State)
+    → IsSite shelf before.site → AreInSlots before.site
+    → after.site.stopped ≡ None → SiteStep g shelf before event answer after → AreInSlots after.site
+
+-- in such a step the segments that were cleaned since the last checkpoint go on holding no block of the tree
+abbrev pub CleanedStayEmpty : Type 0
+CleanedStayEmpty = (g : Layout) (shelf : Shelf) (before : State) (event : SiteEvent) (answer : SiteAnswer) (after : State)
+    → AreEmptied before.log → after.site.stopped ≡ None → SiteStep g shelf before event answer after
+    → AreEmptied after.log
+
+-- THE SHELF
+
+-- what a test lets pass
+abbrev pub Passes : (ℕ → List ℕ → Bool) → ℕ → List ℕ → Type 0
+Passes test n bytes = test n bytes ≡ true
+
+-- A shelf that is kept stays kept by an answer that changes the site, with the new segment after a staging.
+abbrev pub ShelvesStayKept : Type 0
+ShelvesStayKept = (g : Layout) (shelf : Shelf) (s : SiteState) (log : LogUse) (event : SiteEvent)
+    (answer : SiteAnswer) (new : SiteState) (may may_after : ℕ → List ℕ → Bool)
+    (before after : ℕ → List ℕ) (segment buffer : List ℕ) (jobs jobs_after : List JobOut)
+    → IsCache g s → s.next_serial < 2 ^ 64 - 1 → IsAllowed s event → AreHeld s jobs → BringsBack event buffer jobs
+    → KeepsShelf (Passes may) before s.slots s.lines jobs shelf
+    → rules g s log shelf event ≡ Ok (answer, new)
+    → Follow (Passes may) (Passes may_after) before after segment buffer s event answer
+    → JobsFollow answer before jobs jobs_after
+    → KeepsShelf (Passes may_after) after new.slots new.lines jobs_after (shelf_after shelf s.next_serial segment answer)
+
+-- CLAIMS
+
+-- a claim is no greater than itself
+abbrev pub ClaimsAreNoGreater : Type 0
+ClaimsAreNoGreater = (claim : Claim) → IsNoGreater claim claim
+
+-- nor than one that is greater than a third
+abbrev pub ClaimsAreOrdered : Type 0
+ClaimsAreOrdered = (one other third : Claim) → IsNoGreater one other → IsNoGreater other third → IsNoGreater one third
+
+-- what meets a claim meets each one that is no greater
+abbrev pub SmallerClaimsAreMet : Type 0
+SmallerClaimsAreMet = (k : ℕ) (may : ℕ → List ℕ → Bool) (buffer : List ℕ) (one other : Claim)
+    → IsNoGreater one other → MeetsClaim k (Passes may) buffer other → MeetsClaim k (Passes may) buffer one
+
+-- in a step in which no write failed the claim of a job that stays out doesn't grow
+abbrev pub ClaimsDontGrow : Type 0
+ClaimsDontGrow = (g : Layout) (shelf : Shelf) (segment : List ℕ) (before : State) (event : SiteEvent) (answer : SiteAnswer) (after : State)
+    → IsSite shelf before.site → IsCache g before.site → IsAllowed before.site event → before.site.next_serial < 2 ^ 64 - 1
+    → Writes g shelf before.site segment event → after.site.stopped ≡ None → SiteStep g shelf before event answer after
+    → (job : JobNote) → IsOut job before.site.jobs → IsOut job after.site.jobs
+    → IsNoGreater
+    (claim_of g after.site (plain (shelf_after shelf before.site.next_serial segment answer) after.site.tree) job)
+    (claim_of g before.site (plain shelf before.site.tree) job)

@@ -1,0 +1,9 @@
+pub mod PointerLemmas
+pub mod DraftLemmas
+pub mod TableLemmas
+pub mod CountLemmas
+pub mod DraftChanges
+pub mod TrimLemmas
+pub mod NamedLemmas
+pub mod OverlayLemmas
+pub mod MakingLemmas

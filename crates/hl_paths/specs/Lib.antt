@@ -1,0 +1,11 @@
+pub mod Agreement
+pub mod ByNumbers
+pub mod Charges
+pub mod Entries
+pub mod Files
+pub mod Finding
+pub mod Free
+pub mod Laws
+pub mod Links
+pub mod Nodes
+pub mod Numbered

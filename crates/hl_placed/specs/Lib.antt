@@ -1,0 +1,9 @@
+pub mod Blocks
+pub mod Calls
+pub mod Changes
+pub mod Charges
+pub mod Codes
+pub mod Laws
+pub mod Placed
+pub mod Ranking
+pub mod Staging
