@@ -11,7 +11,7 @@ use std::io::{Error, ErrorKind};
 use std::rt::Stdout;
 use std::{fs, io};
 
-/// A file in memory that moves at most a thousand bytes a call; a signal cuts in at each third, and one call fails.
+/// A file in memory that moves at most a thousand bytes a call; one call fails, and a signal cuts in at each third read or write.
 #[derive(Drop)]
 struct Grudging {
     bytes: Vec<u8>,
@@ -20,12 +20,18 @@ struct Grudging {
 }
 
 impl Grudging {
-    // Counts a call, and says whether it goes through.
+    // Counts a call, and says whether it is not the one that fails.
     fn count(&mut self) -> io::Result<()> {
         self.calls = self.calls.saturating_add(1);
         if self.calls == self.fails_at {
             return Err(Error::from(ErrorKind::PermissionDenied));
         }
+        Ok(())
+    }
+
+    // Counts a call that moves bytes, and says whether it goes through.
+    fn move_some(&mut self) -> io::Result<()> {
+        self.count()?;
         if self.calls % 3 == 0 {
             return Err(Error::from(ErrorKind::Interrupted));
         }
@@ -41,7 +47,7 @@ impl PositionalFile for Grudging {
     ghost lasting = { λ file. None };
 
     fn read_from(&mut self, from: u64, out: &mut [u8]) -> io::Result<usize> {
-        self.count()?;
+        self.move_some()?;
         let start = self.bytes.len().min(from as usize);
         let count = (self.bytes.len() - start).min(out.len()).min(1_000);
         out[..count].copy_from_slice(&self.bytes[start..start + count]);
@@ -49,7 +55,7 @@ impl PositionalFile for Grudging {
     }
 
     fn write_from(&mut self, from: u64, bytes: &[u8]) -> io::Result<usize> {
-        self.count()?;
+        self.move_some()?;
         let start = self.bytes.len().min(from as usize);
         let count = (self.bytes.len() - start).min(bytes.len()).min(1_000);
         self.bytes[start..start + count].copy_from_slice(&bytes[..count]);
