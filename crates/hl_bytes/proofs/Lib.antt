@@ -6,3 +6,4 @@ pub mod RunLemmas
 pub mod BufferLemmas
 pub mod Parts
 pub mod RecordLemmas
+pub mod WholeParts

@@ -11,7 +11,8 @@ use Rattle.hl_inode.specs.declared.inode.Inode.{Inode}
 use Rattle.hl_placed.specs.Blocks.{blocks_of}
 use Rattle.hl_tables.specs.Values.{TableValues}
 use Rattle.hl_paths.specs.Nodes.{FlatNode}
-use Rattle.hl_nodes.specs.Pointers.{InLog, HasPointerBlock, pointer_of}
+use Rattle.hl_nodes.specs.Pointers.{HasPointerBlock, pointer_of}
+use Rattle.hl_image.specs.Places.{InLog}
 use Rattle.hl_nodes.specs.Nodes.{IsInodeAt, IsMapEntry}
 use Rattle.hl_nodes.specs.Live.{LiesAt, IsNodeBlock, LiveBlock, IsLiveAt, live_record}
 use Rattle.hl_nodes.specs.Live.NodeBlock.{Own, Pointers, Content}

@@ -20,7 +20,7 @@ use Rattle.hl_summary.specs.Ranges.{IsBlockOf, IsChangeOf}
 use Rattle.hl_super.specs.declared.record.Record.{Record}
 use Rattle.hl_image.specs.declared.place.LogPlace.{LogPlace}
 use Rattle.hl_image.specs.declared.chain.ChainPart.{ChainPart}
-use Rattle.hl_image.specs.Places.{IsLogPlace}
+use Rattle.hl_image.specs.Places.{IsLogPlace, InLog}
 use Rattle.hl_image.specs.Parts.{next_of}
 use Rattle.hl_image.specs.Chain.{Walk, IsCutChain, placed}
 use Rattle.hl_image.specs.Newest.{start_of}
@@ -33,7 +33,6 @@ use Rattle.hl_tables.specs.TableBlocks.{IsTableBlock, tables_bytes, table_block,
 use Rattle.hl_tables.proofs.BlockPlaces.{length-three}
 use Rattle.hl_tables.proofs.EntryBlocks.{length-in_blocks}
 use Rattle.hl_tables.proofs.EntryLemmas.{length-flag_bytes}
-use Rattle.hl_nodes.specs.Pointers.{InLog}
 use Rattle.hl_nodes.specs.Tables.{parts_laid, SpellTables, HasLaidTables}
 use Rattle.hl_found.specs.Found.{AreChainParts, IsOfSite, MayBeLaid, part_laid, parts_found}
 

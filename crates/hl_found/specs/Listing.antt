@@ -6,7 +6,8 @@ use Rattle.hl_bytes.specs.declared.records.BlockRecord.{BlockRecord}
 use Rattle.hl_super.specs.declared.record.Record.{Record}
 use Rattle.hl_inode.specs.declared.inode.Inode.{Inode}
 use Rattle.hl_tables.specs.Values.{TableValues}
-use Rattle.hl_nodes.specs.Pointers.{InLog, HasPointerBlock, pointer_of}
+use Rattle.hl_nodes.specs.Pointers.{HasPointerBlock, pointer_of}
+use Rattle.hl_image.specs.Places.{InLog}
 use Rattle.hl_nodes.specs.Nodes.{IsInodeAt}
 use Rattle.hl_nodes.specs.Live.{NodeBlock, LiesAt, IsNodeBlock, LiveBlock, IsLiveAt, live_record}
 use Rattle.hl_nodes.specs.Live.NodeBlock.{Content}

@@ -15,3 +15,6 @@ pub mod Silence
 pub mod Freed
 pub mod Addresses
 pub mod Fewer
+pub mod Cuts
+pub mod CutPlaces
+pub mod Behind

@@ -32,6 +32,7 @@ contents_of (load.Blocks blocks) = map (λ b. b.1.bytes) blocks.now
 contents_of (load.Tables blocks) = bytes_of_tables blocks.now
 
 -- the records are those of blocks and changes of the site
-pub record AreOf (g : Layout) (records : List BlockRecord) (changes : List TableRecord) : Type 0 where
+pub record AreOf (g : Layout) (records : List BlockRecord)
+    (changes : List TableRecord) : Type 0 where
   pub blocks : All (IsBlockOf g.inodes (table_blocks g)) records
   pub tables : All (IsChangeOf g.inodes (sum g.volumes) (length g.volumes)) changes

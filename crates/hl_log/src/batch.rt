@@ -4,12 +4,11 @@ ghost use Rattle.std.specs.Prelude.{◌≡◌, ◌≤◌, ◌<◌, ◌+◌, ◌*
 ghost use Rattle.hl_media.specs.Moments.{Runs, Ends, Now};
 ghost use Rattle.hl_media.specs.Causes.{HasCause};
 ghost use Rattle.hl_image.specs.Places.{log_end, IsLogPlace};
-ghost use Rattle.hl_log.specs.Batches.{CanStand, IsBatch, blocks_of_part, brought_of, longest_part, part_of_unit};
+ghost use Rattle.hl_log.specs.Batches.{AddsPieceOf, CanStand, HasAddedPieceOf, IsBatch, brought_of, longest_part};
 ghost use Rattle.hl_log.specs.Cut.{HasClean};
 ghost use Rattle.hl_log.specs.Free.{AreClean};
 ghost use Rattle.hl_log.specs.Rest.{IsSynced, SaysNothing};
-ghost use Rattle.hl_log.specs.Steps.{AddsPiece, HasAddedPiece};
-ghost use Rattle.hl_log.specs.Units.{GoesOn, HasWritten, WritesUnit, moved};
+ghost use Rattle.hl_log.specs.Units.{HasCleanFor, HasWritten, UnitGoesOn, WritesUnit, moved};
 
 use crate::load::Load;
 use crate::part::fill;
@@ -53,13 +52,16 @@ fn write_piece<M: Machine>(
     requires stands { CanStand geometry.now log.head left (brought_of batch.now) piece }
     requires room { log_end geometry.now ≤ M.blocks machine.old }
     requires buffer { length buffer.old ≡ 4096 * longest_part geometry.now }
-    ensures crash { Runs (M.history machine.old) (M.history machine.new) (AddsPiece geometry.now log piece.next (part_of_unit (brought_of batch.now) left log.serial last piece) (blocks_of_part (brought_of batch.now) left piece)) }
+    ensures crash { Runs (M.history machine.old) (M.history machine.new)
+        (AddsPieceOf geometry.now log (brought_of batch.now) left last piece) }
     ensures silent { Runs (M.history machine.old) (M.history machine.new) SaysNothing }
     ensures synced { OnOk result (Now (M.history machine.new) IsSynced) }
-    ensures added { OnOk result (Ends (M.history machine.old) (M.history machine.new) (HasAddedPiece geometry.now log piece.next (part_of_unit (brought_of batch.now) left log.serial last piece) (blocks_of_part (brought_of batch.now) left piece))) }
+    ensures added { OnOk result (Ends (M.history machine.old) (M.history machine.new)
+        (HasAddedPieceOf geometry.now log (brought_of batch.now) left last piece)) }
     ensures blocks { M.blocks machine.new ≡ M.blocks machine.old }
     ensures faults { HasCause (M.faults machine.old) (M.faults machine.new) result }
-    ensures write_faults { HasCause (M.write_faults machine.old) (M.write_faults machine.new) result }
+    ensures write_faults { HasCause (M.write_faults machine.old)
+        (M.write_faults machine.new) result }
     ensures say_faults { M.say_faults machine.new ≡ M.say_faults machine.old }
 {
     let first = batch.load.len() - left.blocks;
@@ -133,20 +135,25 @@ pub(crate) fn write_parts<M: Machine>(
     requires place { IsLogPlace geometry.now log.head }
     requires clean { AreClean geometry.now log.head.seg clean.now }
     requires batch { IsBatch geometry.now (brought_of batch.now) }
-    requires enough { HasClean geometry.now log.head clean.now (length (brought_of batch.now).records) (length (brought_of batch.now).changes) }
+    requires enough { HasCleanFor geometry.now log.head clean.now (brought_of batch.now) }
     requires room { log_end geometry.now ≤ M.blocks machine.old }
     requires buffer { length buffer.old ≡ 4096 * longest_part geometry.now }
-    ensures crash { Runs (M.history machine.old) (M.history machine.new) (WritesUnit geometry.now log clean.now (brought_of batch.now)) }
+    ensures crash { Runs (M.history machine.old) (M.history machine.new)
+        (WritesUnit geometry.now log clean.now (brought_of batch.now)) }
     ensures silent { Runs (M.history machine.old) (M.history machine.new) SaysNothing }
     ensures synced { OnOk result (Now (M.history machine.new) IsSynced) }
-    ensures goes_on { IfOk result (λ done. GoesOn geometry.now log clean.now (length (brought_of batch.now).records) (length (brought_of batch.now).changes) done.0.head done.0.serial (drop done.1 clean.now)) }
-    ensures written { IfOk result (λ done. Ends (M.history machine.old) (M.history machine.new) (HasWritten geometry.now log clean.now (brought_of batch.now) done.0 (drop done.1 clean.now))) }
+    ensures goes_on { IfOk result
+        (λ done. UnitGoesOn geometry.now log clean.now (brought_of batch.now) done.0 done.1) }
+    ensures written { IfOk result (λ done. Ends (M.history machine.old) (M.history machine.new)
+        (HasWritten geometry.now log clean.now (brought_of batch.now) done.0
+        (drop done.1 clean.now))) }
     ensures place { IfOk result (λ done. IsLogPlace geometry.now done.0.head) }
     ensures used { IfOk result (λ done. done.1 ≤ length clean.now) }
     ensures position { IfOk result (λ done. done.0 ≡ moved log done.0.head done.0.serial) }
     ensures blocks { M.blocks machine.new ≡ M.blocks machine.old }
     ensures faults { HasCause (M.faults machine.old) (M.faults machine.new) result }
-    ensures write_faults { HasCause (M.write_faults machine.old) (M.write_faults machine.new) result }
+    ensures write_faults { HasCause (M.write_faults machine.old)
+        (M.write_faults machine.new) result }
     ensures say_faults { M.say_faults machine.new ≡ M.say_faults machine.old }
 {
     settle(machine, geometry, log)?;

@@ -71,13 +71,16 @@ fn write_record<M: Machine>(
     requires settled { log.fresh ≡ false }
     requires room { log_end geometry.now ≤ M.blocks machine.old }
     requires is { IsRecord (home_of new.now.number) (label_of geometry.now) new.now }
-    ensures crash { Runs (M.history machine.old) (M.history machine.new) (Records geometry.now log new.now) }
+    ensures crash { Runs (M.history machine.old) (M.history machine.new)
+        (Records geometry.now log new.now) }
     ensures silent { Runs (M.history machine.old) (M.history machine.new) SaysNothing }
     ensures synced { OnOk result (Now (M.history machine.new) IsSynced) }
-    ensures recorded { OnOk result (Ends (M.history machine.old) (M.history machine.new) (HasRecorded geometry.now log new.now)) }
+    ensures recorded { OnOk result (Ends (M.history machine.old) (M.history machine.new)
+        (HasRecorded geometry.now log new.now)) }
     ensures blocks { M.blocks machine.new ≡ M.blocks machine.old }
     ensures faults { HasCause (M.faults machine.old) (M.faults machine.new) result }
-    ensures write_faults { HasCause (M.write_faults machine.old) (M.write_faults machine.new) result }
+    ensures write_faults { HasCause (M.write_faults machine.old)
+        (M.write_faults machine.new) result }
     ensures say_faults { M.say_faults machine.new ≡ M.say_faults machine.old }
 {
     let mut block = [0; BLOCK];
@@ -106,16 +109,23 @@ pub(crate) fn write_checkpoint<M: Machine>(
     requires plan { IsPlan geometry.now log.head clean.now (length tables.now) 0 draft.tables }
     requires room { log_end geometry.now ≤ M.blocks machine.old }
     requires buffer { length buffer.old ≡ 4096 * longest_part geometry.now }
-    ensures crash { Runs (M.history machine.old) (M.history machine.new) (Checkpoints geometry.now log clean.now (drafted draft) (bytes_of_tables tables.now)) }
+    ensures crash { Runs (M.history machine.old) (M.history machine.new)
+        (Checkpoints geometry.now log clean.now (drafted draft) (bytes_of_tables tables.now)) }
     ensures silent { Runs (M.history machine.old) (M.history machine.new) SaysNothing }
     ensures synced { OnOk result (Now (M.history machine.new) IsSynced) }
-    ensures rec { IfOk result (λ done. IsRecordBehind geometry.now log clean.now (drop done.1 clean.now) (drafted draft) (length (bytes_of_tables tables.now)) done.0) }
-    ensures done { IfOk result (λ done. Ends (M.history machine.old) (M.history machine.new) (HasCheckpointed geometry.now log clean.now (drafted draft) (bytes_of_tables tables.now) (restarted_at done.0) (drop done.1 clean.now) done.0)) }
+    ensures rec { let count = length (bytes_of_tables tables.now) in IfOk result (λ done.
+        IsRecordBehind geometry.now log clean.now (drop done.1 clean.now)
+        (drafted draft) count done.0) }
+    ensures done { let given = drafted draft in let blocks = bytes_of_tables tables.now in
+        IfOk result (λ done. Ends (M.history machine.old) (M.history machine.new)
+        (HasCheckpointed geometry.now log clean.now given blocks (restarted_at done.0)
+        (drop done.1 clean.now) done.0)) }
     ensures place { IfOk result (λ done. IsLogPlace geometry.now (start_of done.0)) }
     ensures used { IfOk result (λ done. done.1 ≤ length clean.now) }
     ensures blocks { M.blocks machine.new ≡ M.blocks machine.old }
     ensures faults { HasCause (M.faults machine.old) (M.faults machine.new) result }
-    ensures write_faults { HasCause (M.write_faults machine.old) (M.write_faults machine.new) result }
+    ensures write_faults { HasCause (M.write_faults machine.old)
+        (M.write_faults machine.new) result }
     ensures say_faults { M.say_faults machine.new ≡ M.say_faults machine.old }
 {
     let batch = Batch {

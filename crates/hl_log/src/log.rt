@@ -1,6 +1,6 @@
 //! The log of a site.
 
-ghost use Rattle.std.specs.Prelude.{◌≡◌, ◌↔◌, IsTrue, false, ◌≤◌, ◌<◌, ◌+◌, ◌*◌, ◌/◌, ◌^◌, length, IfOk, IfErr, OnOk, MatchOption};
+ghost use Rattle.std.specs.Prelude.{◌≡◌, ◌↔◌, IsTrue, false, ◌≤◌, ◌<◌, ◌+◌, ◌*◌, ◌/◌, ◌^◌, length, IfOk, IfErr, OnOk};
 ghost use Rattle.std.specs.Option.{ForSome};
 ghost use Rattle.hl_media.specs.History.{Adds, DidRead, DidWrite, DidSync, DidSay, HoldsAt, IsWhole, content};
 ghost use Rattle.hl_media.specs.Moments.{Runs, Ends, Now};
@@ -8,11 +8,11 @@ ghost use Rattle.hl_media.specs.Causes.{HasCause};
 ghost use Rattle.hl_image.specs.Places.{log_end, IsLogPlace};
 ghost use Rattle.hl_log.specs.Cut.{HasClean, IsPlan, Plans};
 ghost use Rattle.hl_log.specs.Free.{AreClean};
-ghost use Rattle.hl_log.specs.Checkpoints.{Checkpoints, IsOf, drafted, given_by};
+ghost use Rattle.hl_log.specs.Checkpoints.{Checkpoints, Drafts, IsOf, given_by};
 ghost use Rattle.hl_log.specs.Loads.{AreOf, bytes_of_tables};
 ghost use Rattle.hl_addr.specs.Layout.{table_blocks};
-ghost use Rattle.hl_log.specs.Logs.{CheckpointEnds, Opens, UnitEnds, opened_at, unit_of};
-ghost use Rattle.hl_log.specs.Rest.{SaysNothing, Stays};
+ghost use Rattle.hl_log.specs.Logs.{CheckpointEnds, Opens, RestStays, UnitEnds, opened_at, opened_log, site_blocks, unit_of, with_machine};
+ghost use Rattle.hl_log.specs.Rest.{SaysNothing};
 ghost use Rattle.hl_log.specs.Units.{WritesUnit};
 
 use crate::batch::{Batch, has_clean, write_parts};
@@ -42,20 +42,25 @@ pub struct Log<M: Machine> {
 }
 
 impl<M: Machine> Model for Log<M> {
-    ghost use Rattle.std.specs.Prelude.{◌≡◌, ◌+◌, ◌*◌, ◌≤◌, length};
+    ghost use Rattle.std.specs.Prelude.{◌≡◌, ◌*◌, ◌≤◌, length};
     ghost use Rattle.hl_image.specs.Places.{IsLogPlace};
     ghost use Rattle.hl_addr.specs.Layout.{IsWithinLimits};
     ghost use Rattle.hl_log.specs.Batches.{longest_part};
-    ghost use Rattle.hl_log.specs.Logs.{LogValue, log_code};
+    ghost use Rattle.hl_log.specs.Logs.{LogValue, log_code, site_blocks};
 
     ghost Value = { LogValue M };
 
     ghost coded = { log_code M.code };
 
-    ghost view = { λ log. record { machine = log.machine; geometry = log.geometry; rec = log.rec; at = log.at } };
+    ghost view = { λ log. record {
+      machine = log.machine;
+      geometry = log.geometry;
+      rec = log.rec;
+      at = log.at;
+    } };
 
     ghost invariant = { λ log. record {
-      room : (1 + log.geometry.log + log.geometry.lines) * log.geometry.k ≤ M.blocks log.machine;
+      room : site_blocks log.geometry ≤ M.blocks log.machine;
       head : IsLogPlace log.geometry log.at.head;
       limits : IsWithinLimits log.geometry;
       buffer : length log.buffer ≡ 4096 * longest_part log.geometry;
@@ -74,13 +79,15 @@ impl<M: Machine> Log<M> {
         head: (u32, u32),
         serial: u64,
     ) -> Result<Log<M>, (AllocError, M)>
-        requires room { (1 + geometry.now.log + geometry.now.lines) * geometry.now.k ≤ M.blocks machine }
+        requires room { site_blocks geometry.now ≤ M.blocks machine }
         requires head { IsLogPlace geometry.now (record { seg = head.0; block = head.1 }) }
-        ensures opened { IfOk result (λ log. log ≡ record { machine = machine; geometry = geometry.now; rec = rec; at = opened_at rec (record { seg = head.0; block = head.1 }) serial }) }
+        ensures opened { IfOk result (λ log. log ≡ opened_log machine geometry.now rec
+            (record { seg = head.0; block = head.1 }) serial) }
         ensures back { IfErr result (λ refused. refused.1 ≡ machine) }
 
         // Behind the cut chain of what reads give the log is at rest.
-        ensures rest { IfOk result (λ log. Now (M.history log.machine) (Opens log.geometry log.at)) }
+        ensures rest { IfOk result
+            (λ log. Now (M.history log.machine) (Opens log.geometry log.at)) }
     {
         let Ok(own) = geometry.copy(alloc) else {
             return Err((AllocError, machine));
@@ -123,7 +130,8 @@ impl<M: Machine> Log<M> {
     /// once, and not the head's.
     pub fn has_clean(&self, blocks: u32, tables: u32, clean: &[u32]) -> bool
         requires { AreClean self.now.geometry self.now.at.head.seg clean.now }
-        ensures { IsTrue result ↔ HasClean self.now.geometry self.now.at.head clean.now blocks tables }
+        ensures { let head = self.now.at.head in
+            IsTrue result ↔ HasClean self.now.geometry head clean.now blocks tables }
     {
         has_clean(
             &self.geometry,
@@ -144,7 +152,8 @@ impl<M: Machine> Log<M> {
         clean: &[u32],
     ) -> Result<Option<Vec<u32>>, AllocError>
         requires { AreClean self.now.geometry self.now.at.head.seg clean.now }
-        ensures { IfOk result (λ plan. Plans self.now.geometry self.now.at.head clean.now blocks tables plan) }
+        ensures { let head = self.now.at.head in
+            IfOk result (Plans self.now.geometry head clean.now blocks tables) }
     {
         plan(
             alloc,
@@ -163,7 +172,8 @@ impl<M: Machine> Log<M> {
         ensures enough { let n = length addresses.old in
             IsTrue result ↔ HasClean self.now.geometry self.now.at.head clean.now n tables }
         ensures plan { let n = length addresses.old in
-            IsTrue result → IsPlan self.now.geometry self.now.at.head clean.now n tables addresses.new }
+            IsTrue result
+            → IsPlan self.now.geometry self.now.at.head clean.now n tables addresses.new }
         ensures none { result ≡ false → addresses.new ≡ addresses.old }
     {
         let head = self.at.head;
@@ -189,11 +199,15 @@ impl<M: Machine> Log<M> {
     pub fn write_unit(&mut self, unit: &Unit, clean: &[u32]) -> UnitAnswer
         requires clean { AreClean self.old.geometry self.old.at.head.seg clean.now }
         requires segments { length clean.now < 2 ^ 32 }
-        requires unit { AreOf self.old.geometry (unit_of unit.now).records (unit_of unit.now).changes }
+        requires unit { let brought = unit_of unit.now in
+            AreOf self.old.geometry brought.records brought.changes }
         requires few { length unit.now.blocks < 2 ^ 32 }
-        ensures crash { Runs (M.history self.old.machine) (M.history self.new.machine) (WritesUnit self.old.geometry self.old.at clean.now (unit_of unit.now)) }
-        ensures silent { Runs (M.history self.old.machine) (M.history self.new.machine) SaysNothing }
-        ensures ends { UnitEnds M.history M.faults M.write_faults clean.now (unit_of unit.now) self.old self.new result }
+        ensures crash { Runs (M.history self.old.machine) (M.history self.new.machine)
+            (WritesUnit self.old.geometry self.old.at clean.now (unit_of unit.now)) }
+        ensures silent { Runs (M.history self.old.machine)
+            (M.history self.new.machine) SaysNothing }
+        ensures ends { let brought = unit_of unit.now in
+            UnitEnds M.history M.faults M.write_faults clean.now brought self.old self.new result }
         ensures geometry { self.new.geometry ≡ self.old.geometry }
         ensures blocks { M.blocks self.new.machine ≡ M.blocks self.old.machine }
         ensures faults { M.faults self.old.machine ≤ M.faults self.new.machine }
@@ -249,9 +263,15 @@ impl<M: Machine> Log<M> {
         requires segments { length clean.now < 2 ^ 32 }
         requires tables { length tables.now ≡ table_blocks self.old.geometry }
         requires rec { IsOf self.old.geometry rec.now }
-        ensures crash { Runs (M.history self.old.machine) (M.history self.new.machine) (Checkpoints self.old.geometry self.old.at clean.now (given_by self.old.rec.number rec.now) (bytes_of_tables tables.now)) }
-        ensures silent { Runs (M.history self.old.machine) (M.history self.new.machine) SaysNothing }
-        ensures ends { CheckpointEnds M.history M.faults M.write_faults clean.now (given_by self.old.rec.number rec.now) (bytes_of_tables tables.now) self.old self.new result }
+        ensures crash { let given = given_by self.old.rec.number rec.now in
+            Runs (M.history self.old.machine) (M.history self.new.machine)
+            (Checkpoints self.old.geometry self.old.at clean.now given
+            (bytes_of_tables tables.now)) }
+        ensures silent { Runs (M.history self.old.machine)
+            (M.history self.new.machine) SaysNothing }
+        ensures ends { let given = given_by self.old.rec.number rec.now in
+            CheckpointEnds M.history M.faults M.write_faults clean.now given
+            (bytes_of_tables tables.now) self.old self.new result }
         ensures geometry { self.new.geometry ≡ self.old.geometry }
         ensures blocks { M.blocks self.new.machine ≡ M.blocks self.old.machine }
         ensures faults { M.faults self.old.machine ≤ M.faults self.new.machine }
@@ -293,7 +313,8 @@ impl<M: Machine> Log<M> {
         clean: &[u32],
     ) -> Result<Option<Draft>, AllocError>
         requires { AreClean self.now.geometry self.now.at.head.seg clean.now }
-        ensures { IfOk result (λ draft. MatchOption draft (¬ HasClean self.now.geometry self.now.at.head clean.now tables 0) (λ d. IsPlan self.now.geometry self.now.at.head clean.now tables 0 d.tables × (drafted d ≡ given_by self.now.rec.number rec.now))) }
+        ensures { let given = given_by self.now.rec.number rec.now in
+            IfOk result (Drafts self.now.geometry self.now.at.head clean.now tables given) }
     {
         let addresses = plan(alloc, &self.geometry, self.at.head, tables, 0, clean)?;
         match addresses {
@@ -312,10 +333,12 @@ impl<M: Machine> Log<M> {
     pub fn read(&mut self, at: u32, out: &mut [u8]) -> Result<(), Failed>
         requires whole { IsWhole out.old }
         requires within { at + length out.old / 4096 ≤ M.blocks self.old.machine }
-        ensures did { Adds (M.history self.old.machine) (M.history self.new.machine) (DidRead result) }
-        ensures bytes { OnOk result (ForSome (M.history self.old.machine) (λ h. HoldsAt (content h) at out.new)) }
-        ensures rest { Runs (M.history self.old.machine) (M.history self.new.machine) (Stays self.old.geometry self.old.at) }
-        ensures same { self.new ≡ record { machine = self.new.machine; geometry = self.old.geometry; rec = self.old.rec; at = self.old.at } }
+        ensures did { Adds (M.history self.old.machine) (M.history self.new.machine)
+            (DidRead result) }
+        ensures bytes { OnOk result (ForSome (M.history self.old.machine)
+            (λ h. HoldsAt (content h) at out.new)) }
+        ensures rest { RestStays M.history self.old self.new }
+        ensures same { self.new ≡ with_machine self.old self.new.machine }
         ensures blocks { M.blocks self.new.machine ≡ M.blocks self.old.machine }
         ensures faults { HasCause (M.faults self.old.machine) (M.faults self.new.machine) result }
         ensures write_faults { M.write_faults self.new.machine ≡ M.write_faults self.old.machine }
@@ -328,13 +351,15 @@ impl<M: Machine> Log<M> {
     pub fn write(&mut self, at: u32, bytes: &[u8]) -> Result<(), Failed>
         requires whole { IsWhole bytes.now }
         requires lines { log_end self.old.geometry ≤ at }
-        requires within { at + length bytes.now / 4096 ≤ (1 + self.old.geometry.log + self.old.geometry.lines) * self.old.geometry.k }
-        ensures did { Adds (M.history self.old.machine) (M.history self.new.machine) (DidWrite at bytes.now result) }
-        ensures rest { Runs (M.history self.old.machine) (M.history self.new.machine) (Stays self.old.geometry self.old.at) }
-        ensures same { self.new ≡ record { machine = self.new.machine; geometry = self.old.geometry; rec = self.old.rec; at = self.old.at } }
+        requires within { at + length bytes.now / 4096 ≤ site_blocks self.old.geometry }
+        ensures did { Adds (M.history self.old.machine) (M.history self.new.machine)
+            (DidWrite at bytes.now result) }
+        ensures rest { RestStays M.history self.old self.new }
+        ensures same { self.new ≡ with_machine self.old self.new.machine }
         ensures blocks { M.blocks self.new.machine ≡ M.blocks self.old.machine }
         ensures faults { HasCause (M.faults self.old.machine) (M.faults self.new.machine) result }
-        ensures write_faults { HasCause (M.write_faults self.old.machine) (M.write_faults self.new.machine) result }
+        ensures write_faults { HasCause (M.write_faults self.old.machine)
+            (M.write_faults self.new.machine) result }
         ensures say_faults { M.say_faults self.new.machine ≡ M.say_faults self.old.machine }
     {
         self.machine.write(at, bytes)
@@ -342,12 +367,14 @@ impl<M: Machine> Log<M> {
 
     /// Makes all writes so far last.
     pub fn sync(&mut self) -> Result<(), Failed>
-        ensures did { Adds (M.history self.old.machine) (M.history self.new.machine) (DidSync result) }
-        ensures rest { Runs (M.history self.old.machine) (M.history self.new.machine) (Stays self.old.geometry self.old.at) }
-        ensures same { self.new ≡ record { machine = self.new.machine; geometry = self.old.geometry; rec = self.old.rec; at = self.old.at } }
+        ensures did { Adds (M.history self.old.machine) (M.history self.new.machine)
+            (DidSync result) }
+        ensures rest { RestStays M.history self.old self.new }
+        ensures same { self.new ≡ with_machine self.old self.new.machine }
         ensures blocks { M.blocks self.new.machine ≡ M.blocks self.old.machine }
         ensures faults { HasCause (M.faults self.old.machine) (M.faults self.new.machine) result }
-        ensures write_faults { HasCause (M.write_faults self.old.machine) (M.write_faults self.new.machine) result }
+        ensures write_faults { HasCause (M.write_faults self.old.machine)
+            (M.write_faults self.new.machine) result }
         ensures say_faults { M.say_faults self.new.machine ≡ M.say_faults self.old.machine }
     {
         self.machine.sync()
@@ -355,13 +382,15 @@ impl<M: Machine> Log<M> {
 
     /// Says the bytes. Where it fails, some first part of them is said.
     pub fn say(&mut self, bytes: &[u8]) -> Result<(), Failed>
-        ensures did { Adds (M.history self.old.machine) (M.history self.new.machine) (DidSay bytes.now result) }
-        ensures rest { Runs (M.history self.old.machine) (M.history self.new.machine) (Stays self.old.geometry self.old.at) }
-        ensures same { self.new ≡ record { machine = self.new.machine; geometry = self.old.geometry; rec = self.old.rec; at = self.old.at } }
+        ensures did { Adds (M.history self.old.machine) (M.history self.new.machine)
+            (DidSay bytes.now result) }
+        ensures rest { RestStays M.history self.old self.new }
+        ensures same { self.new ≡ with_machine self.old self.new.machine }
         ensures blocks { M.blocks self.new.machine ≡ M.blocks self.old.machine }
         ensures faults { M.faults self.new.machine ≡ M.faults self.old.machine }
         ensures write_faults { M.write_faults self.new.machine ≡ M.write_faults self.old.machine }
-        ensures say_faults { HasCause (M.say_faults self.old.machine) (M.say_faults self.new.machine) result }
+        ensures say_faults { HasCause (M.say_faults self.old.machine)
+            (M.say_faults self.new.machine) result }
     {
         self.machine.say(bytes)
     }

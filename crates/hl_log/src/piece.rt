@@ -1,9 +1,8 @@
 //! How a unit is cut into parts.
 
-ghost use Rattle.std.specs.Prelude.{◌≡◌, ◌≤◌, ◌+◌, ◌-◌, ◌↔◌, ℕ, IsTrue, List, MatchOption, length, drop, min};
+ghost use Rattle.std.specs.Prelude.{◌≡◌, ◌≤◌, ◌+◌, ◌-◌, ◌↔◌, IsTrue, MatchOption, length, min};
 ghost use Rattle.hl_image.specs.Places.{IsLogPlace};
-ghost use Rattle.hl_image.specs.declared.place.LogPlace.{LogPlace};
-ghost use Rattle.hl_log.specs.Cut.{Goes, LeavesBehind, Takes};
+ghost use Rattle.hl_log.specs.Cut.{GoesTo, LeavesBehind, NoPiece, NoPlace};
 
 use hl_addr::Geometry;
 use hl_image::LogPlace;
@@ -55,8 +54,8 @@ fn next_place(
     requires place { IsLogPlace geometry.now left.at }
     requires used { left.used ≤ length clean.now }
     requires within { left.at.block + blocks + 1 ≤ geometry.now.k }
-    ensures { MatchOption result ((next : LogPlace) (more : List ℕ) → Goes geometry.now left.at blocks (drop left.used clean.now) next more → ⊥)
-        (λ r. Goes geometry.now left.at blocks (drop left.used clean.now) r.0 (drop r.1 clean.now) × (left.used ≤ r.1) × (r.1 ≤ length clean.now)) }
+    ensures { MatchOption result (NoPlace geometry.now left blocks clean.now)
+        (λ r. GoesTo geometry.now left blocks clean.now r.0 r.1) }
 {
     let k = geometry.k;
     let behind = left.at.block + blocks as u32 + 1;
@@ -81,7 +80,8 @@ fn next_place(
 pub(crate) fn next_piece(geometry: &Geometry, left: Left, clean: &[u32]) -> Option<(Piece, Left)>
     requires place { IsLogPlace geometry.now left.at }
     requires used { left.used ≤ length clean.now }
-    ensures { MatchOption result ((p : Piece) (more : List ℕ) → Takes geometry.now left.at (drop left.used clean.now) left.blocks left.tables p more → ⊥) (λ r. LeavesBehind geometry.now left clean.now r.0 r.1) }
+    ensures { MatchOption result (NoPiece geometry.now left clean.now)
+        (λ r. LeavesBehind geometry.now left clean.now r.0 r.1) }
 {
     let blocks = blocks_taken(geometry, left);
     let tables = left.tables.min(TABLES_MAX);

@@ -37,12 +37,15 @@ fn clear_head<M: Machine>(machine: &mut M, geometry: &Geometry, log: Position) -
     requires fresh { log.fresh ≡ true }
     requires place { IsLogPlace geometry.now log.head }
     requires room { log_end geometry.now ≤ M.blocks machine.old }
-    ensures crash { Runs (M.history machine.old) (M.history machine.new) (KeepsChain geometry.now log) }
+    ensures crash { Runs (M.history machine.old) (M.history machine.new)
+        (KeepsChain geometry.now log) }
     ensures silent { Runs (M.history machine.old) (M.history machine.new) SaysNothing }
-    ensures cleared { OnOk result (Ends (M.history machine.old) (M.history machine.new) (HeadCleared geometry.now log)) }
+    ensures cleared { OnOk result (Ends (M.history machine.old) (M.history machine.new)
+        (HeadCleared geometry.now log)) }
     ensures blocks { M.blocks machine.new ≡ M.blocks machine.old }
     ensures faults { HasCause (M.faults machine.old) (M.faults machine.new) result }
-    ensures write_faults { HasCause (M.write_faults machine.old) (M.write_faults machine.new) result }
+    ensures write_faults { HasCause (M.write_faults machine.old)
+        (M.write_faults machine.new) result }
     ensures say_faults { M.say_faults machine.new ≡ M.say_faults machine.old }
 {
     let zeros = zeros();
@@ -59,12 +62,15 @@ fn clear_next<M: Machine>(
     requires settled { log.fresh ≡ false }
     requires place { IsLogPlace geometry.now next }
     requires room { log_end geometry.now ≤ M.blocks machine.old }
-    ensures crash { Runs (M.history machine.old) (M.history machine.new) (KeepsChainTo geometry.now log next) }
+    ensures crash { Runs (M.history machine.old) (M.history machine.new)
+        (KeepsChainTo geometry.now log next) }
     ensures silent { Runs (M.history machine.old) (M.history machine.new) SaysNothing }
-    ensures cleared { OnOk result (Ends (M.history machine.old) (M.history machine.new) (NextCleared geometry.now log next)) }
+    ensures cleared { OnOk result (Ends (M.history machine.old) (M.history machine.new)
+        (NextCleared geometry.now log next)) }
     ensures blocks { M.blocks machine.new ≡ M.blocks machine.old }
     ensures faults { HasCause (M.faults machine.old) (M.faults machine.new) result }
-    ensures write_faults { HasCause (M.write_faults machine.old) (M.write_faults machine.new) result }
+    ensures write_faults { HasCause (M.write_faults machine.old)
+        (M.write_faults machine.new) result }
     ensures say_faults { M.say_faults machine.new ≡ M.say_faults machine.old }
 {
     let zeros = zeros();
@@ -84,13 +90,16 @@ fn put_part<M: Machine>(
     requires room { log_end geometry.now ≤ M.blocks machine.old }
     requires whole { IsWhole bytes.now }
     requires within { log.head.block + length bytes.now / 4096 ≤ geometry.now.k }
-    ensures crash { Runs (M.history machine.old) (M.history machine.new) (PutsPart geometry.now log next bytes.now) }
+    ensures crash { Runs (M.history machine.old) (M.history machine.new)
+        (PutsPart geometry.now log next bytes.now) }
     ensures silent { Runs (M.history machine.old) (M.history machine.new) SaysNothing }
     ensures synced { OnOk result (Now (M.history machine.new) IsSynced) }
-    ensures put { OnOk result (Ends (M.history machine.old) (M.history machine.new) (HasPut geometry.now log next bytes.now)) }
+    ensures put { OnOk result (Ends (M.history machine.old) (M.history machine.new)
+        (HasPut geometry.now log next bytes.now)) }
     ensures blocks { M.blocks machine.new ≡ M.blocks machine.old }
     ensures faults { HasCause (M.faults machine.old) (M.faults machine.new) result }
-    ensures write_faults { HasCause (M.write_faults machine.old) (M.write_faults machine.new) result }
+    ensures write_faults { HasCause (M.write_faults machine.old)
+        (M.write_faults machine.new) result }
     ensures say_faults { M.say_faults machine.new ≡ M.say_faults machine.old }
 {
     write_synced(machine, block_at(geometry, log.head), bytes)
@@ -111,13 +120,16 @@ pub(crate) fn write_part<M: Machine>(
     requires room { log_end geometry.now ≤ M.blocks machine.old }
     requires whole { IsWhole bytes.now }
     requires within { log.head.block + length bytes.now / 4096 ≤ geometry.now.k }
-    ensures crash { Runs (M.history machine.old) (M.history machine.new) (AddsPart geometry.now log next bytes.now) }
+    ensures crash { Runs (M.history machine.old) (M.history machine.new)
+        (AddsPart geometry.now log next bytes.now) }
     ensures silent { Runs (M.history machine.old) (M.history machine.new) SaysNothing }
     ensures synced { OnOk result (Now (M.history machine.new) IsSynced) }
-    ensures added { OnOk result (Ends (M.history machine.old) (M.history machine.new) (HasAdded geometry.now log next bytes.now)) }
+    ensures added { OnOk result (Ends (M.history machine.old) (M.history machine.new)
+        (HasAdded geometry.now log next bytes.now)) }
     ensures blocks { M.blocks machine.new ≡ M.blocks machine.old }
     ensures faults { HasCause (M.faults machine.old) (M.faults machine.new) result }
-    ensures write_faults { HasCause (M.write_faults machine.old) (M.write_faults machine.new) result }
+    ensures write_faults { HasCause (M.write_faults machine.old)
+        (M.write_faults machine.new) result }
     ensures say_faults { M.say_faults machine.new ≡ M.say_faults machine.old }
 {
     clear_next(machine, geometry, log, next)?;
@@ -132,12 +144,15 @@ pub(crate) fn settle<M: Machine>(
 ) -> Result<(), Failed>
     requires place { IsLogPlace geometry.now log.head }
     requires room { log_end geometry.now ≤ M.blocks machine.old }
-    ensures crash { Runs (M.history machine.old) (M.history machine.new) (KeepsChain geometry.now log) }
+    ensures crash { Runs (M.history machine.old) (M.history machine.new)
+        (KeepsChain geometry.now log) }
     ensures silent { Runs (M.history machine.old) (M.history machine.new) SaysNothing }
-    ensures cleared { OnOk result (Ends (M.history machine.old) (M.history machine.new) (HeadCleared geometry.now log)) }
+    ensures cleared { OnOk result (Ends (M.history machine.old) (M.history machine.new)
+        (HeadCleared geometry.now log)) }
     ensures blocks { M.blocks machine.new ≡ M.blocks machine.old }
     ensures faults { HasCause (M.faults machine.old) (M.faults machine.new) result }
-    ensures write_faults { HasCause (M.write_faults machine.old) (M.write_faults machine.new) result }
+    ensures write_faults { HasCause (M.write_faults machine.old)
+        (M.write_faults machine.new) result }
     ensures say_faults { M.say_faults machine.new ≡ M.say_faults machine.old }
 {
     if log.fresh {

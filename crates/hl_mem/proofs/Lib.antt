@@ -1,6 +1,5 @@
 pub mod KeptLemmas
 pub mod Parts
-pub mod Segments
 pub mod SlotStops
 pub mod Recordings
 pub mod Stops

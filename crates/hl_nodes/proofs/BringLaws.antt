@@ -15,7 +15,8 @@ use Rattle.hl_inode.specs.declared.inode.Inode.{Inode}
 use Rattle.hl_inode.specs.Inodes.{Spells}
 use Rattle.hl_paths.specs.Nodes.{FlatNode}
 use Rattle.hl_placed.specs.Blocks.{Away, Block, Here, Hole, file_block}
-use Rattle.hl_nodes.specs.Pointers.{InLog, pointer_of}
+use Rattle.hl_nodes.specs.Pointers.{pointer_of}
+use Rattle.hl_image.specs.Places.{InLog}
 use Rattle.hl_nodes.specs.Blocks.{StandsFor}
 use Rattle.hl_nodes.specs.Nodes.{IsInodeAt, IsNodeAt}
 use Rattle.hl_nodes.specs.Live.{NodeBlock, record_of, LiesAt, IsNodeBlock, IsLive}
@@ -27,7 +28,7 @@ use Rattle.hl_nodes.specs.Fates.{IsBroughtAs}
 use Rattle.hl_nodes.specs.Brings.{IsBrought, BringsBlock, BringsPointers, BringsInode}
 use Rattle.hl_nodes.proofs.PointerLemmas.{in_log-some, in_log-near}
 use Rattle.hl_nodes.proofs.Frame.{one_inode}
-use Rattle.hl_nodes.proofs.Cuts.{cut_in_log}
+use Rattle.hl_log.proofs.Cuts.{cut_in_log}
 use Rattle.hl_nodes.proofs.UnitLaws.{limits, node_in_log}
 
 module _ (g : Layout) (p : Position) (clean : List ℕ) (c : Contents) (first : MachineState) (rests : Rests g p clean c first) (u : Brought) (pieces : List Piece) (rest : List ℕ)

@@ -26,7 +26,7 @@ use Rattle.hl_tseg.specs.SlotTable.{SlotTable}
 use Rattle.hl_tseg.specs.Slots.{HasRoom}
 use Rattle.hl_paths.specs.Nodes.{Nodes}
 use Rattle.hl_nodes.specs.Tables.{SpellTables}
-use Rattle.hl_nodes.specs.Pointers.{InLog}
+use Rattle.hl_image.specs.Places.{InLog}
 use Rattle.hl_nodes.specs.Nodes.{IsInodeAt, IsMapEntry, HasNodes}
 use Rattle.hl_nodes.specs.Live.{NodeBlock, LiesAt, IsNodeBlock, LiveBlock, IsLiveAt, IsLive}
 use Rattle.hl_nodes.specs.Live.LiveBlock.{Table, OfNode}
@@ -35,7 +35,7 @@ use Rattle.hl_nodes.specs.Checkpoints.{contents_of_tables, IsCheckpointOf, Carri
 use Rattle.hl_nodes.specs.Moments.{HasSameNodes}
 use Rattle.hl_nodes.proofs.PointerLemmas.{in_log-high, in_log-low}
 use Rattle.hl_nodes.proofs.Frame.{contents_same, nodes_same, block_back}
-use Rattle.hl_nodes.proofs.Cuts.{cut_in_log}
+use Rattle.hl_log.proofs.Cuts.{cut_in_log}
 use Rattle.hl_nodes.proofs.LaidTables.{laid_are_tables}
 use Rattle.hl_nodes.proofs.UnitLaws.{limits, node_in_log, live_in_log}
 

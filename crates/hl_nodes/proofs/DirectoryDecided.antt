@@ -11,7 +11,8 @@ use Rattle.hl_dir.specs.Dirs.{HaveRoom, dir_bytes}
 use Rattle.hl_dir.proofs.DirLemmas.{spelled_once}
 use Rattle.hl_inode.specs.declared.inode.Inode.{Inode}
 use Rattle.hl_placed.specs.Blocks.{blocks_of, padded_block}
-use Rattle.hl_nodes.specs.Pointers.{InLog, pointer_of}
+use Rattle.hl_nodes.specs.Pointers.{pointer_of}
+use Rattle.hl_image.specs.Places.{InLog}
 use Rattle.hl_nodes.specs.Directories.{HoldsEntries}
 use Rattle.hl_nodes.proofs.Deciding.{Decided, both, alike, is_equal, same_bytes, all_below}
 use Rattle.hl_nodes.proofs.EntriesDecided.{are_sorted, spelled_or_not}

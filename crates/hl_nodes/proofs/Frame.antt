@@ -18,7 +18,8 @@ use Rattle.hl_inode.proofs.InodeLemmas as inodes
 use Rattle.hl_paths.specs.Nodes.{FlatNode, Nodes}
 use Rattle.hl_placed.specs.Blocks.{Away, Block, Here, Hole, file_block}
 use Rattle.hl_nodes.specs.Tables.{SpellTables, HasLaidTables}
-use Rattle.hl_nodes.specs.Pointers.{InLog, pointer_of, HasPointerBlock}
+use Rattle.hl_nodes.specs.Pointers.{pointer_of, HasPointerBlock}
+use Rattle.hl_image.specs.Places.{InLog}
 use Rattle.hl_nodes.specs.Blocks.{StandsFor}
 use Rattle.hl_nodes.specs.Nodes.{IsInodeAt, IsNodeOf, IsMapEntry, HasNodes}
 use Rattle.hl_nodes.specs.Live.{NodeBlock, LiesAt, IsNodeBlock, LiveBlock, IsLiveAt, IsLive}

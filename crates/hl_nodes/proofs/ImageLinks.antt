@@ -21,7 +21,8 @@ use Rattle.hl_paths.proofs.Links.{none_some, name_is, follow-append, follow-none
 use Rattle.hl_paths.proofs.Nodes.{directory_of, links-of, links-none}
 use Rattle.hl_paths.proofs.Entries.{sorted_rows}
 use Rattle.hl_paths.proofs.EntriesAt.{entry_number-at}
-use Rattle.hl_nodes.specs.Pointers.{InLog, pointer_of}
+use Rattle.hl_nodes.specs.Pointers.{pointer_of}
+use Rattle.hl_image.specs.Places.{InLog}
 use Rattle.hl_nodes.specs.Blocks.{StandsFor}
 use Rattle.hl_nodes.specs.Nodes.{IsNodeOf, IsNodeAt, IsMapEntry, HasNodes}
 use Rattle.hl_nodes.specs.Directories.{IsInodeIn, HoldsEntries, HasEntry, Leads}

@@ -2,8 +2,6 @@ pub mod PointerLemmas
 pub mod Frame
 pub mod Membership
 pub mod Laying
-pub mod Cuts
-pub mod Behind
 pub mod UnitLaws
 pub mod LaidTables
 pub mod CheckpointLaws
@@ -20,7 +18,6 @@ pub mod MomentLaws
 pub mod Passing
 pub mod ClassLemmas
 pub mod EntryLemmas
-pub mod CutPlaces
 pub mod OneFiles
 pub mod OneVerdict
 pub mod Rows

@@ -14,7 +14,8 @@ use Rattle.hl_inode.specs.Inodes.{Spells}
 use Rattle.hl_placed.specs.Blocks.{Away, Block, Here, Hole, blocks_of}
 use Rattle.hl_paths.specs.Nodes.{FlatNode, Nodes}
 use Rattle.hl_nodes.specs.declared.rule.Rule.TheVariants.{MapEntry, InodeBytes, PointerPlace, PointerBlock}
-use Rattle.hl_nodes.specs.Pointers.{InLog, pointer_in, pointer_of, HasPointerBlock}
+use Rattle.hl_nodes.specs.Pointers.{pointer_in, pointer_of, HasPointerBlock}
+use Rattle.hl_image.specs.Places.{InLog}
 use Rattle.hl_nodes.specs.Blocks.{StandsFor}
 use Rattle.hl_nodes.specs.Nodes.{IsInodeAt, IsNodeAt, IsMapEntry, HasNodes}
 use Rattle.hl_nodes.specs.Directories.{IsInodeIn}

@@ -8,7 +8,7 @@ use Rattle.hl_addr.proofs.PlaceLemmas.{slot_only}
 use Rattle.hl_tseg.specs.SlotTable.{SlotTable, slot_at}
 use Rattle.hl_tseg.specs.Slots.{serial_of, HoldsSerial}
 use Rattle.hl_tseg.specs.declared.slot.Slot.{Slot}
-use Rattle.hl_nodes.specs.Pointers.{InLog}
+use Rattle.hl_image.specs.Places.{InLog}
 use Rattle.hl_nodes.specs.Blocks.{LiesAway}
 use Rattle.hl_nodes.proofs.Deciding.{Decided, both, alike, is_equal, is_at_most, some_below}
 

@@ -17,7 +17,8 @@ use Rattle.hl_nodes.specs.Checkpoints.{contents_of_tables, after_checkpoint}
 use Rattle.hl_nodes.specs.Sound.{AreSlots, IsUsed, IsSound}
 use Rattle.hl_nodes.specs.Moments.{IsSoundCheckpoint, HasSameSound}
 use Rattle.hl_nodes.proofs.Frame.{block_back}
-use Rattle.hl_nodes.proofs.CutPlaces.{once_at, addresses_free, addresses_once}
+use Rattle.hl_log.proofs.Addresses.{addresses_free, addresses_once}
+use Rattle.hl_log.proofs.CutPlaces.{once_at}
 use Rattle.hl_nodes.proofs.CheckpointLaws.{item_in, moved_block, nodes_agree, carried, volumes_are, new_has, old_live_kept, old_holds, serial_kept}
 use Rattle.hl_nodes.proofs.SoundUnits.{sound_same}
 

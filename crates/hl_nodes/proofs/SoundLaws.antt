@@ -16,7 +16,8 @@ use Rattle.hl_paths.specs.Nodes.{FlatNode}
 use Rattle.hl_placed.specs.Blocks.{Away, Block, Here, Hole, file_block, blocks_of}
 use Rattle.hl_nodes.specs.declared.rule.Rule.{Rule}
 use Rattle.hl_nodes.specs.declared.rule.Rule.TheVariants.{TablePlace, TableBytes, MapEntry, InodeBytes, PointerPlace, PointerBlock, SharedBlock, StrayBlock, DirectoryBytes, DirectoryEntry, LostInode, SlotEntry, LineBytes, LastBlock, Quota, Room}
-use Rattle.hl_nodes.specs.Pointers.{InLog, pointer_in, pointer_of, HasPointerBlock}
+use Rattle.hl_nodes.specs.Pointers.{pointer_in, pointer_of, HasPointerBlock}
+use Rattle.hl_image.specs.Places.{InLog}
 use Rattle.hl_inode.specs.Inodes.{IsInode}
 use Rattle.hl_nodes.specs.Blocks.{StandsFor, LiesAway}
 use Rattle.hl_nodes.specs.Nodes.{IsInodeAt, IsNodeOf, IsNodeAt, IsMapEntry}

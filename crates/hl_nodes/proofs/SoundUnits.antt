@@ -34,8 +34,9 @@ use Rattle.hl_nodes.specs.Contents.{Contents, HasContents, Rests}
 use Rattle.hl_nodes.specs.Units.{blocks_placed, unit_laid, TakesIn, IsPlanned, Makes, after_unit}
 use Rattle.hl_nodes.specs.Sound.{head_of, IsUsed, IsAhead, IsTaken, IsSound, HasSound, KeepsSound}
 use Rattle.hl_nodes.proofs.Frame.{live_at_back}
-use Rattle.hl_nodes.proofs.Cuts.{was_free, blocks_covered}
-use Rattle.hl_nodes.proofs.CutPlaces.{once_at, covers_not_free, addresses_free, addresses_once}
+use Rattle.hl_log.proofs.Cuts.{was_free, blocks_covered}
+use Rattle.hl_log.proofs.Addresses.{addresses_free, addresses_once}
+use Rattle.hl_log.proofs.CutPlaces.{once_at, covers_not_free}
 use Rattle.hl_nodes.proofs.Lookups.{entry, placed-other, changes-other, unit_laid-used}
 use Rattle.hl_nodes.proofs.UnitLaws.{closed, old_kept, new_there, newest_kept, new_origin, planned_in, live_kept}
 

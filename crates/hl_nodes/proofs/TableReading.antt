@@ -27,7 +27,7 @@ use Rattle.hl_tables.proofs.EntryBlocks.{entry_block}
 use Rattle.hl_tables.proofs.ReadBlocks.{block_again, number_again, flag_again, slot_again}
 use Rattle.hl_tables.proofs.BlockPlaces.{inode_place, used_place, slot_place, full_place}
 use Rattle.hl_nodes.specs.Tables.{SpellTables}
-use Rattle.hl_nodes.specs.Pointers.{InLog}
+use Rattle.hl_image.specs.Places.{InLog}
 use Rattle.hl_media.specs.History.{Image}
 use Rattle.std.specs.Prelude.{slice_index}
 use Rattle.hl_nodes.proofs.Deciding.{Decided, alike, same_bytes}

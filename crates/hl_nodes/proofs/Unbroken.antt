@@ -15,7 +15,7 @@ use Rattle.hl_tables.specs.TableBlocks.{IsTableBlock, inode_blocks, used_blocks}
 use Rattle.hl_nodes.specs.declared.rule.Rule.{Rule}
 use Rattle.hl_nodes.specs.declared.rule.Rule.TheVariants.{TablePlace, TableBytes}
 use Rattle.hl_nodes.specs.Tables.{SpellTables, HasLaidTables, parts_laid}
-use Rattle.hl_nodes.specs.Pointers.{InLog}
+use Rattle.hl_image.specs.Places.{InLog}
 use Rattle.hl_nodes.specs.Breaks.{Breaks, IsTableAt}
 use Rattle.hl_nodes.specs.Verdicts.{rule_number, KeepsRules}
 use Rattle.hl_nodes.proofs.Deciding.{certain, is_equal}

@@ -6,7 +6,7 @@ use Rattle.hl_bytes.specs.declared.records.BlockRecord.{BlockRecord}
 use Rattle.hl_media.specs.History.{Image, MachineState, IsUntouched}
 use Rattle.hl_addr.specs.Layout.{Layout, IsWithinLimits}
 use Rattle.hl_summary.specs.declared.parts.Summary.{Summary}
-use Rattle.hl_image.specs.Places.{log_end}
+use Rattle.hl_image.specs.Places.{log_end, InLog}
 use Rattle.hl_image.specs.declared.place.LogPlace.{LogPlace}
 use Rattle.hl_image.specs.Chain.{end_of, cut, IsChain, IsCutChain}
 use Rattle.hl_image.specs.Newest.{IsNewest, start_of}
@@ -23,7 +23,6 @@ use Rattle.hl_log.proofs.TwoPhases.{one_cut, length-addresses}
 use Rattle.hl_tables.specs.Values.{TableValues}
 use Rattle.hl_paths.specs.Nodes.{Nodes}
 use Rattle.hl_nodes.specs.Tables.{parts_laid, HasLaidTables}
-use Rattle.hl_nodes.specs.Pointers.{InLog}
 use Rattle.hl_nodes.specs.Live.{NodeBlock, IsNodeBlock, LiveBlock, live_record, IsLiveAt, IsLive}
 use Rattle.hl_nodes.specs.Live.NodeBlock.{Own, Pointers, Content}
 use Rattle.hl_nodes.specs.Live.LiveBlock.{Table, OfNode}
@@ -33,7 +32,7 @@ use Rattle.hl_nodes.proofs.PointerLemmas.{in_log-high}
 use Rattle.hl_nodes.proofs.Frame.{limits_of, table_count, contents_same, tables_same}
 use Rattle.hl_nodes.proofs.Laying.{parts_laid-append, parts_laid-k, unit_row}
 use Rattle.hl_log.proofs.Cleans.{free_from}
-use Rattle.hl_nodes.proofs.Behind.{free_before, none_free}
+use Rattle.hl_log.proofs.Behind.{free_before, none_free}
 
 -- a live block of a node lies in the log
 pub node_in_log : (g : Layout) (image : Image) (t : TableValues) (ino : ℕ) (block : NodeBlock) (address : ℕ) → IsNodeBlock g image t ino block address → InLog g address

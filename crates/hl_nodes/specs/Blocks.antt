@@ -10,7 +10,7 @@ use Rattle.hl_tseg.specs.Slots.{HoldsSerial}
 use Rattle.hl_inode.specs.declared.inode.Kind.{Kind}
 use Rattle.hl_inode.specs.declared.inode.Kind.TheVariants.{File}
 use Rattle.hl_placed.specs.Blocks.{Away, Block, Here, Hole}
-use Rattle.hl_nodes.specs.Pointers.{InLog}
+use Rattle.hl_image.specs.Places.{InLog}
 
 -- an address in a slot that holds the segment of this serial, at one of its data blocks
 pub record LiesAway (g : Layout) (slots : SlotTable) (address serial position : ℕ) : Type 0 where

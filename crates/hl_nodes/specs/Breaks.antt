@@ -16,7 +16,8 @@ use Rattle.hl_placed.specs.Blocks.{blocks_of}
 use Rattle.hl_nodes.specs.declared.rule.Rule.{Rule}
 use Rattle.hl_nodes.specs.declared.rule.Rule.TheVariants.{TablePlace, TableBytes, MapEntry, InodeBytes, PointerPlace, PointerBlock, SharedBlock, StrayBlock, DirectoryBytes, DirectoryEntry, LostInode, SlotEntry, LineBytes, LastBlock, Quota, Room}
 use Rattle.hl_nodes.specs.Tables.{parts_raised}
-use Rattle.hl_nodes.specs.Pointers.{InLog, pointer_in, pointer_of}
+use Rattle.hl_nodes.specs.Pointers.{pointer_in, pointer_of}
+use Rattle.hl_image.specs.Places.{InLog}
 use Rattle.hl_nodes.specs.Blocks.{LiesAway}
 use Rattle.hl_tseg.specs.Slots.{HoldsSerial, is_staged}
 use Rattle.hl_nodes.specs.Nodes.{HasNodes}

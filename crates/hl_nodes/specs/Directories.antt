@@ -9,7 +9,8 @@ use Rattle.hl_inode.specs.declared.inode.Inode.{Inode}
 use Rattle.hl_dir.specs.declared.entry.Entry.{Entry}
 use Rattle.hl_dir.specs.Dirs.{AreEntries, dir_bytes}
 use Rattle.hl_placed.specs.Blocks.{blocks_of, padded_block}
-use Rattle.hl_nodes.specs.Pointers.{InLog, pointer_of}
+use Rattle.hl_nodes.specs.Pointers.{pointer_of}
+use Rattle.hl_image.specs.Places.{InLog}
 use Rattle.hl_nodes.specs.Nodes.{IsInodeAt}
 
 -- the inode of a number stands at the address, by the map

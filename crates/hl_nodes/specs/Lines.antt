@@ -10,7 +10,7 @@ use Rattle.hl_tseg.specs.SlotTable.{SlotTable, slot_at}
 use Rattle.hl_tseg.specs.declared.slot.Slot.{Slot}
 use Rattle.hl_tseg.specs.declared.slot.Slot.TheVariants.{Free, Staged, Home, Spoilt}
 use Rattle.hl_placed.specs.Blocks.{Shelf}
-use Rattle.hl_nodes.specs.Pointers.{InLog}
+use Rattle.hl_image.specs.Places.{InLog}
 
 -- the first block of a line
 abbrev pub line_start : Layout → ℕ → ℕ

@@ -9,7 +9,8 @@ use Rattle.hl_inode.specs.declared.inode.Inode.{Inode}
 use Rattle.hl_inode.specs.Inodes.{Spells}
 use Rattle.hl_paths.specs.Nodes.{FlatNode, Nodes}
 use Rattle.hl_placed.specs.Blocks.{file_block, blocks_of}
-use Rattle.hl_nodes.specs.Pointers.{InLog, pointer_of, HasPointerBlock}
+use Rattle.hl_nodes.specs.Pointers.{pointer_of, HasPointerBlock}
+use Rattle.hl_image.specs.Places.{InLog}
 use Rattle.hl_nodes.specs.Blocks.{StandsFor}
 
 -- the inode of this number stands at the address in the log

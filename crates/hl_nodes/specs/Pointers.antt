@@ -2,17 +2,10 @@
 use Rattle.std.specs.Prelude.{◌≡◌, ◌≢◌, ◌⊎◌, ℕ, ◌+◌, ◌-◌, ◌<◌, ◌≤◌, ◌==◌, nat_lt, if◌then◌else◌, slice_index, ◌*◌, List, length}
 use Rattle.hl_media.specs.History.{Image}
 use Rattle.hl_addr.specs.Layout.{Layout}
-use Rattle.hl_addr.specs.Place.{IsAt}
-use Rattle.hl_addr.specs.declared.place.Place.TheVariants.{Log}
+use Rattle.hl_image.specs.Places.{InLog}
 use Rattle.hl_inode.specs.Pointers.{pointers_of}
 use Rattle.hl_inode.specs.declared.inode.Inode.{Inode}
 use Rattle.hl_placed.specs.Blocks.{blocks_of}
-
--- the address of a block of the log
-pub record InLog (g : Layout) (address : ℕ) : Type 0 where
-  pub segment : ℕ
-  pub block : ℕ
-  pub place : IsAt g address (Log segment block)
 
 -- pointer i of the pointer block at an address, and Nothing where there is no pointer block
 unfoldable pub pointer_in : Image → ℕ → ℕ → ℕ

@@ -12,7 +12,7 @@ use Rattle.hl_image.specs.Newest.{start_of}
 use Rattle.hl_tables.specs.Values.{TableValues, AreTables}
 use Rattle.hl_tables.specs.Laying.{laid}
 use Rattle.hl_tables.specs.TableBlocks.{table_block}
-use Rattle.hl_nodes.specs.Pointers.{InLog}
+use Rattle.hl_image.specs.Places.{InLog}
 
 -- parts that stand one after another, laid over tables in their order
 abbrev pub parts_laid : TableValues → LogPlace → List Summary → TableValues

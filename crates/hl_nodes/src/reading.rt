@@ -2,10 +2,10 @@
 
 ghost use Rattle.std.specs.Prelude.{◌≡◌, ◌≢◌, ◌↔◌, ℕ, ◌+◌, ◌*◌, ◌<◌, ◌≤◌, length, IsTrue, IfOk};
 ghost use Rattle.hl_bytes.specs.Buffers.{block_of};
-ghost use Rattle.hl_image.specs.Places.{log_end};
+ghost use Rattle.hl_image.specs.Places.{log_end, InLog};
 ghost use Rattle.hl_addr.specs.Slots.{HasSlot, slot_number};
 ghost use Rattle.hl_tseg.specs.SlotTable.{slot_at};
-ghost use Rattle.hl_nodes.specs.Pointers.{InLog, HasPointerBlock, ReachesBlock};
+ghost use Rattle.hl_nodes.specs.Pointers.{HasPointerBlock, ReachesBlock};
 ghost use Rattle.hl_nodes.specs.Pointers.{pointer_in, pointer_of};
 ghost use Rattle.hl_nodes.specs.Found.{NamesBlocks, FindsAway, FindsBlock, FindsBlocks};
 ghost use Rattle.hl_nodes.specs.Found.{FindsNode, FindsNodeOf};

@@ -3,7 +3,7 @@ use Rattle.hl_bytes.specs.Buffers.{block_of}
 use Rattle.hl_bytes.specs.Fields.{written}
 use Rattle.hl_addr.specs.Layout.{table_blocks}
 use Rattle.std.specs.Prelude.{slice_index}
-use Rattle.hl_nodes.specs.Pointers.{InLog}
+use Rattle.hl_image.specs.Places.{InLog}
 use Rattle.hl_tables.specs.Values.{fresh}
 use Rattle.hl_tables.specs.TableBlocks.{tables_bytes}
 use Rattle.hl_tables.proofs.Laid.{same_shape-then}

@@ -1,7 +1,7 @@
 use Rattle.std.proofs.Common.{◌≡◌, ℕ, ◌<◌}
 use Rattle.std.specs.Prelude.{slice_index}
 use Rattle.hl_bytes.specs.Buffers.{block_of}
-use Rattle.hl_nodes.specs.Pointers.{InLog}
+use Rattle.hl_image.specs.Places.{InLog}
 use Rattle.hl_tables.specs.Values.{SameShape, fresh}
 use Rattle.hl_tables.specs.TableBlocks.{table_block}
 use Rattle.hl_found.proofs.tables.spelled_tables.Given as goal

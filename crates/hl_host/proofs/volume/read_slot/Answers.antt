@@ -1,7 +1,7 @@
 use Rattle.std.proofs.Common.{◌≡◌, ◌*◌, ℕ, List, length, sym, ◌∙◌, ap, subst}
 use Rattle.std.specs.Prelude.{OnOk}
 use Rattle.hl_bytes.specs.Buffers.{with_part}
-use Rattle.hl_host.proofs.Segments.{whole_written}
+use Rattle.hl_bytes.proofs.WholeParts.{whole_written}
 use Rattle.hl_host.specs.Places.{StandsAt}
 use Rattle.hl_host.specs.Devices.{told_of}
 use Rattle.hl_host.proofs.volume.read_slot.Goals as goal

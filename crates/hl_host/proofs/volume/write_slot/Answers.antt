@@ -1,6 +1,6 @@
 use Rattle.std.proofs.Common.{◌≡◌, ◌*◌, ℕ, List, length, ◌∙◌, subst}
 use Rattle.std.specs.Prelude.{OnOk}
-use Rattle.hl_host.proofs.Segments.{whole_part}
+use Rattle.hl_bytes.proofs.WholeParts.{whole_part}
 use Rattle.hl_host.specs.Places.{PutsAt}
 use Rattle.hl_host.specs.Devices.{told_of}
 use Rattle.hl_host.proofs.PlaceLaws.{changes_none}

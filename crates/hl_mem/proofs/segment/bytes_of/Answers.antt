@@ -1,5 +1,5 @@
 use Rattle.std.proofs.Common.{◌∙◌}
-use Rattle.hl_mem.proofs.Segments.{whole_part}
+use Rattle.hl_bytes.proofs.WholeParts.{whole_part}
 use Rattle.hl_mem.proofs.segment.bytes_of.Goals as goal
 
 pub returns : goal.returns

@@ -1,6 +1,6 @@
 use Rattle.std.proofs.Common.{◌∙◌, ap}
 use Rattle.std.proofs.Common.{length}
-use Rattle.hl_mem.proofs.Segments.{whole_written}
+use Rattle.hl_bytes.proofs.WholeParts.{whole_written}
 use Rattle.hl_mem.proofs.segment.fill.Goals as goal
 
 pub returns : goal.returns

@@ -1,6 +1,6 @@
 use Rattle.std.proofs.Common.{ℕ, List, length, ◌∙◌, ap}
 use Rattle.hl_mem.specs.Tears.{torn_bytes}
-use Rattle.hl_mem.proofs.Segments.{whole_part, whole_written}
+use Rattle.hl_bytes.proofs.WholeParts.{whole_part, whole_written}
 use Rattle.hl_mem.proofs.segment.tear_over.Goals as goal
 
 pub returns-clause-torn : goal.returns-clause-torn

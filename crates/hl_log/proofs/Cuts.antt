@@ -9,7 +9,7 @@ use Rattle.hl_bytes.specs.declared.records.BlockRecord.{BlockRecord}
 use Rattle.hl_bytes.specs.declared.records.TableRecord.{TableRecord}
 use Rattle.hl_summary.specs.declared.parts.Summary.{Summary}
 use Rattle.hl_image.specs.declared.place.LogPlace.{LogPlace}
-use Rattle.hl_image.specs.Places.{block_at, IsLogPlace}
+use Rattle.hl_image.specs.Places.{block_at, IsLogPlace, InLog}
 use Rattle.hl_image.specs.Parts.{next_of}
 use Rattle.hl_image.specs.Chain.{end_of, Covers}
 use Rattle.hl_log.specs.declared.piece.Piece.{Piece}
@@ -17,32 +17,17 @@ use Rattle.hl_log.specs.Free.{IsFree, InOneOf, AreClean}
 use Rattle.hl_log.specs.Cut.{Goes, AreCut, addresses, summaries}
 use Rattle.hl_log.proofs.Cutting.{within, place_then}
 use Rattle.hl_log.proofs.Unfolding.{blocks_at}
-use Rattle.hl_nodes.specs.Pointers.{InLog}
-use Rattle.hl_nodes.proofs.Membership.{in_append, in_range}
+use Rattle.hl_log.proofs.Freed.{in_append, in_range, goes_free}
 
 module _ (g : Layout) where
-  pub goes_free : (at : LogPlace) (n : ℕ) (clean : List ℕ) (next : LogPlace) (more : List ℕ) (k : ℕ) → Goes g at n clean next more → IsFree g next more k → IsFree g at clean k
-  goes_free at n clean next more k (inl near) (inl here) =
-      let m : g.k * next.seg ≡ g.k * at.seg = ap (λ (x : ℕ). g.k * x) near.1 in
-      let b = near.2 in
-      let lo = here.0 in
-      let hi = here.1 in
-      inl (omega arith, omega arith)
-  goes_free at n clean next more k (inl near) (inr there) = inr (subst (λ (l : List ℕ). InOneOf g l k) near.3 there)
-  goes_free at n clean next more k (inr far) (inl here) =
-      let lo = here.0 in
-      let hi = here.1 in
-      inr (subst (λ (l : List ℕ). InOneOf g l k) (sym far.1) (inl (omega arith, hi)))
-  goes_free at n clean next more k (inr far) (inr there) = inr (subst (λ (l : List ℕ). InOneOf g l k) (sym far.1) (inr there))
-
   -- what is free behind a unit was free before it
   pub was_free :
       (closes : Bool) (serial : ℕ) (records : List BlockRecord) (changes : List TableRecord) (at : LogPlace) (clean : List ℕ) (b t : ℕ) (pieces : List Piece) (rest : List ℕ)
       → AreCut g at clean b t pieces rest → (k : ℕ) → IsFree g (end_of at (summaries closes serial records changes pieces)) rest k → IsFree g at clean k
   was_free closes serial records changes at clean b t [] rest none k free = absurd none
-  was_free closes serial records changes at clean b t (p ∷ []) rest cut k free = goes_free at p.blocks clean p.next rest k cut.0.goes free
+  was_free closes serial records changes at clean b t (p ∷ []) rest cut k free = goes_free g at p.blocks clean p.next rest k cut.0.goes free
   was_free closes serial records changes at clean b t (p ∷ q ∷ ps) rest cut k free =
-      goes_free at p.blocks clean p.next cut.0 k cut.1.goes
+      goes_free g at p.blocks clean p.next cut.0 k cut.1.goes
       (was_free closes (serial + 1) (drop p.blocks records) (drop p.tables changes) p.next cut.0 (b - p.blocks) (t - p.tables) (q ∷ ps) rest cut.3 k free)
 
   -- a block of a part lies in the log
