@@ -61,20 +61,6 @@ ended_plain out new end le size zero =
     let e : length (take end out) ≡ end = length-take-le end out le in
     sym (take_all 4096 new size) ∙ zero ∙ ap (λ (n : ℕ). take end out ++ zeros (4096 - n)) (sym e)
 
-pub is_page_by : (block : List ℕ) (end : ℕ) → end ≤ length block → take 4064 block ≡ take end block ++ zeros (4064 - end) → block ≡ sealed (take 4064 block) → block ≡ page (take end block)
-is_page_by block end le zero is = ended block block block end le zero is
-
-pub page_zero : (block : List ℕ) (end : ℕ) → end ≤ length block → end ≤ 4064 → block ≡ page (take end block) → (take 4064 block ≡ take end block ++ zeros (4064 - end)) × (block ≡ sealed (take 4064 block))
-unfolding page
-page_zero block end le small is =
-    let short : length (take end block) ≤ 4064 = omega (arith, length-take-le end block le) in
-    let body : take 4064 block ≡ padded 4064 (take end block) = ap (take 4064) is ∙ take-sealed (padded 4064 (take end block)) 4064 (length-padded 4064 (take end block) short) in
-    (padded_front block end 4064 le body, is ∙ ap sealed (sym body))
-
-pub plain_page_zero : (block : List ℕ) (end : ℕ) → end ≤ length block → length block ≤ 4096 → block ≡ plain_page (take end block) → take 4096 block ≡ take end block ++ zeros (4096 - end)
-unfolding plain_page
-plain_page_zero block end le size is = padded_front block end 4096 le (take_all 4096 block size ∙ is)
-
 -- the front of what is sealed
 pub take-sealed_over : (front behind : List ℕ) (n : ℕ) → length front ≡ n → take n (sealed_over front behind) ≡ front
 unfolding sealed_over

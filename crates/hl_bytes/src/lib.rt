@@ -38,7 +38,7 @@ pub use block::Block;
 pub use buffer::SegBuf;
 pub use fields::{get_u32, get_u64, has_bytes, is_zero, put_bytes, put_u32, put_u64, put_zeros};
 pub use numbers::{get_numbers, put_numbers};
-pub use pages::{end_page, end_page_over, end_plain_page, is_page, is_page_over, is_plain_page};
+pub use pages::{end_page, end_page_over, end_plain_page, is_page_over};
 pub use records::{
     BlockRecord, TableRecord, get_block_record, get_block_records, get_table_record,
     get_table_records, put_block_record, put_block_records, put_table_record, put_table_records,

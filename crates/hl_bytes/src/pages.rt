@@ -4,7 +4,7 @@ ghost use Rattle.std.specs.Prelude.{◌≡◌, ◌≤◌, ◌↔◌, IsTrue, len
 ghost use Rattle.hl_bytes.specs.Pages.{page, page_over, plain_page};
 
 use crate::fields::{is_zero, put_zeros};
-use crate::sealing::{is_sealed, is_sealed_over, seal, seal_over};
+use crate::sealing::{is_sealed_over, seal, seal_over};
 
 /// Ends a block whose fields stand before `end`: zeros, and the digest.
 pub fn end_page(block: &mut [u8], end: usize)
@@ -14,15 +14,6 @@ pub fn end_page(block: &mut [u8], end: usize)
 {
     put_zeros(block, end, 4064);
     seal(block);
-}
-
-/// Whether the block is zero from `end` on, and ends with its digest.
-pub fn is_page(block: &[u8], end: usize) -> bool
-    requires size { length block.now ≡ 4096 }
-    requires within { end ≤ 4064 }
-    ensures { IsTrue result ↔ (block.now ≡ page (take end block.now)) }
-{
-    is_zero(block, end, 4064) && is_sealed(block)
 }
 
 /// Ends the first block, whose fields stand before `end`: zeros, and the digest of it and of all
@@ -53,13 +44,4 @@ pub fn end_plain_page(block: &mut [u8], end: usize)
     ensures { block.new ≡ plain_page (take end block.old) }
 {
     put_zeros(block, end, 4096);
-}
-
-/// Whether the block is zero from `end` on.
-pub fn is_plain_page(block: &[u8], end: usize) -> bool
-    requires size { length block.now ≡ 4096 }
-    requires within { end ≤ 4096 }
-    ensures { IsTrue result ↔ (block.now ≡ plain_page (take end block.now)) }
-{
-    is_zero(block, end, 4096)
 }

@@ -16,16 +16,6 @@ pub fn seal(block: &mut [u8])
     block[4064..].copy_from_slice(&digest);
 }
 
-/// Whether the block ends with the digest of its first 4,064 bytes.
-pub fn is_sealed(block: &[u8]) -> bool
-    requires { length block.now ≡ 4096 }
-    ensures { IsTrue result ↔ (block.now ≡ sealed (take 4064 block.now)) }
-{
-    let digest = Sha256::digest(&block[..4064]);
-    let kept = &block[4064..];
-    kept == digest.as_slice()
-}
-
 /// The digest of a block and of those behind it, without the digest's own place.
 fn digest_over(bytes: &[u8]) -> [u8; 32]
     requires { 4096 ≤ length bytes.now }

@@ -67,12 +67,12 @@ fn a_page_ends_with_its_digest(rt: HostRuntime) {
     put_bytes(&mut block, 0, b"HLTEST01");
     put_u32(&mut block, 8, 7);
     end_page(&mut block, 12);
-    assert!(rt; is_page(&block, 12) && !is_page(&block, 8));
+    assert!(rt; is_page_over(&block, 12) && !is_page_over(&block, 8));
     assert!(rt; has_bytes(&block, 4_064, &[99, 196, 135, 104]));
     block[100] = 1;
-    assert!(rt; !is_page(&block, 12));
+    assert!(rt; !is_page_over(&block, 12));
     end_plain_page(&mut block, 12);
-    assert!(rt; is_plain_page(&block, 12) && !is_plain_page(&block, 8));
+    assert!(rt; is_zero(&block, 12, BLOCK) && !is_zero(&block, 8, BLOCK));
 }
 
 #[test]
