@@ -3,6 +3,8 @@
 
 mod logs;
 mod sites;
+#[cfg(test)]
+mod tests;
 mod trial;
 mod units;
 

@@ -1,6 +1,9 @@
 //! Logs of a site on disks in memory.
 
-ghost use Rattle.std.specs.Prelude.{◌≡◌, ◌+◌, ◌*◌, IfOk, IfSome, length};
+ghost use Rattle.std.specs.Prelude.{◌≡◌, ◌≤◌, ◌+◌, ◌*◌, IfOk, IfSome, IsTrue, length};
+ghost use Rattle.hl_image.specs.Places.{IsLogPlace, log_end};
+ghost use Rattle.hl_log.specs.Free.{AreClean};
+ghost use Rattle.hl_log.specs.Logs.{site_blocks};
 ghost use Rattle.hl_log_trial.specs.Units.{IsOfSite};
 
 use crate::sites::{label, record};
@@ -15,7 +18,7 @@ use std::alloc::{AllocError, Global};
 
 /// The blocks of a site's disk.
 fn disk_blocks(site: &Geometry) -> Option<u32>
-    ensures { IfSome result (λ n. n ≡ (1 + site.now.log + site.now.lines) * site.now.k) }
+    ensures { IfSome result (λ n. n ≡ site_blocks site.now) }
 {
     (1 + site.log + site.lines).checked_mul(site.k)
 }
@@ -26,8 +29,40 @@ pub fn zeros(alloc: Global, site: &Geometry) -> Result<Vec<u8>, AllocError> {
     vec![in alloc; 0; BLOCK * blocks as usize]
 }
 
-/// A log on a disk with these bytes, opened behind the empty chain that starts at a block of segment 1. None where they
-/// are no disk of the site, the block is off its segment, or the chain that starts there has a unit.
+/// Where the log of an image goes on: the place behind its cut chain, and the serial of the part that is to stand there.
+/// None where the image is no disk of the site.
+fn chain_end(
+    alloc: Global,
+    site: &Geometry,
+    image: &[u8],
+    rec: &Record,
+) -> Result<Option<(u32, u32, u64)>, AllocError> {
+    if !has_log(site, image) {
+        return Ok(None);
+    }
+    let parts = chain_parts(alloc, image, site, rec)?;
+    match parts.as_slice().last() {
+        None => Ok(Some((rec.seg, rec.block, rec.serial))),
+        Some(part) => {
+            let last = &part.summary;
+            Ok(Some((
+                last.next_seg,
+                last.next_block,
+                last.serial.saturating_add(1),
+            )))
+        }
+    }
+}
+
+/// Whether a part may begin there: a segment of the log, with room for a block behind the part's summary.
+fn is_log_place(site: &Geometry, seg: u32, block: u32) -> bool
+    ensures { IsTrue result → IsLogPlace site.now (record { seg = seg; block = block }) }
+{
+    1 <= seg && seg <= site.log && block as u64 + 2 <= site.k as u64
+}
+
+/// The log of a disk with these bytes, opened at the end of the cut chain that starts at a block of segment 1. None where
+/// they are no disk of the site, or the chain ends where no part may begin.
 pub fn open_on(
     alloc: Global,
     site: &Geometry,
@@ -35,34 +70,42 @@ pub fn open_on(
     block: u32,
 ) -> Result<Option<Log<MemMachine>>, AllocError> {
     let rec = record(alloc, site, block)?;
-    let is_empty = chain_length(alloc, site, image, &rec)? == Some(0);
+    let Some((seg, block, serial)) = chain_end(alloc, site, image, &rec)? else {
+        return Ok(None);
+    };
     let Some(blocks) = disk_blocks(site) else {
         return Ok(None);
     };
-    if !is_empty || site.log < 1 || block as u64 + 2 > site.k as u64 {
-        return Ok(None);
-    }
-    if image.len() != BLOCK * blocks as usize {
+    if !is_log_place(site, seg, block) || image.len() != BLOCK * blocks as usize {
         return Ok(None);
     }
     let machine = MemMachine::of_image(alloc, image)?;
     if machine.blocks() < blocks {
         return Ok(None);
     }
-    match Log::open(alloc, machine, site, rec, (1, block), 1) {
+    match Log::open(alloc, machine, site, rec, (seg, block), serial) {
         Ok(log) => Ok(Some(log)),
         Err(_) => Err(AllocError),
     }
 }
 
-/// Writes a unit at a head in segment 1, with the segments from 2 on; none where the head is elsewhere.
+/// The three segments behind the head's, where a chain that goes up has no part yet. None where the log has fewer.
+#[tactic(auto, using(crate::proofs::CleanLemmas::three_clean))]
+fn clean_behind(site: &Geometry, head: u32) -> Option<[u32; 3]>
+    ensures { IfSome result (AreClean site.now head) }
+{
+    if head as u64 + 3 > site.log as u64 {
+        return None;
+    }
+    Some([head + 1, head + 2, head + 3])
+}
+
+/// Writes a unit, with the three segments behind the head's; none where there are fewer.
 pub fn write(log: &mut Log<MemMachine>, unit: &Unit) -> Option<UnitAnswer>
     requires { IsOfSite log.old.geometry unit.now }
 {
-    if log.head().0 != 1 || log.geometry().log < 4 {
-        return None;
-    }
-    Some(log.write_unit(unit, &[2, 3, 4]))
+    let clean = clean_behind(log.geometry(), log.head().0)?;
+    Some(log.write_unit(unit, &clean))
 }
 
 /// So many blocks, for tables.
@@ -78,17 +121,25 @@ fn tables(alloc: Global, count: u32) -> Result<Vec<Block>, AllocError>
     Ok(all)
 }
 
-/// Writes a checkpoint at a head in segment 1, with the segments from 2 on; none where the head is elsewhere.
+/// Writes a checkpoint, with the three segments behind the head's; none where there are fewer.
 pub fn checkpoint(
     alloc: Global,
     log: &mut Log<MemMachine>,
 ) -> Result<Option<UnitAnswer>, AllocError> {
     let rec = record(alloc, log.geometry(), 0)?;
     let blocks = tables(alloc, log.geometry().table_blocks())?;
-    if log.head().0 != 1 || log.geometry().log < 4 {
+    let Some(clean) = clean_behind(log.geometry(), log.head().0) else {
         return Ok(None);
-    }
-    Ok(Some(log.checkpoint(alloc, blocks.as_slice(), &rec, &[2, 3, 4])))
+    };
+    Ok(Some(log.checkpoint(alloc, blocks.as_slice(), &rec, &clean)))
+}
+
+/// Whether the image has the log's segments.
+fn has_log(site: &Geometry, image: &[u8]) -> bool
+    ensures { IsTrue result → 4096 * log_end site.now ≤ length image.now }
+{
+    let log_end = site.k as usize * site.log as usize + site.k as usize;
+    log_end <= image.len() / BLOCK
 }
 
 /// How many parts the image's chain has, up to the last one that ends a unit; none where it is no disk of the site.
@@ -98,8 +149,7 @@ pub fn chain_length(
     image: &[u8],
     rec: &Record,
 ) -> Result<Option<usize>, AllocError> {
-    let log_end = site.k as usize * site.log as usize + site.k as usize;
-    if image.len() / BLOCK < log_end {
+    if !has_log(site, image) {
         return Ok(None);
     }
     Ok(Some(chain_parts(alloc, image, site, rec)?.as_slice().len()))

@@ -9,12 +9,19 @@ use hl_addr::Geometry;
 use hl_log::{Log, UnitAnswer};
 use hl_mem::{MemMachine, Tear};
 use std::alloc::{AllocError, Global};
+use std::marker::Model;
 
-/// A log that was opened behind an empty chain, whose start is a block of segment 1.
+/// A log that was opened at the end of its cut chain, whose start is a block of segment 1. Contracts see nothing of it.
 #[derive(Drop)]
 pub struct Trial {
     log: Log<MemMachine>,
     block: u32,
+}
+
+impl Model for Trial {
+    ghost Value = { Unit {0} };
+
+    ghost view = { λ _. tt };
 }
 
 impl Trial {
@@ -24,8 +31,8 @@ impl Trial {
         Trial::on(alloc, site, image.as_slice(), block)
     }
 
-    /// A log of a site on a disk with these bytes; none where they are no disk of the site, the block is off its segment,
-    /// or a unit stands in the chain that starts there.
+    /// The log of a site on a disk with these bytes, whose chain starts at this block; none where they are no disk of the
+    /// site, or the chain ends where no part may begin.
     pub fn on(
         alloc: Global,
         site: &Geometry,
