@@ -1,5 +1,5 @@
 -- A segment that is tested is one that was spelled.
-use Rattle.std.proofs.Common.{◌≡◌, ℕ, Some, ◌+◌, ◌-◌, ◌*◌, ◌/◌, ◌<◌, ◌≤◌, ◌^◌, ◌↔◌, min, List, ◌++◌, length, take, drop, refl, sym, ap, ◌∙◌, arith, length-append, length-drop}
+use Rattle.std.proofs.Common.{◌≡◌, ℕ, Some, ◌+◌, ◌-◌, ◌*◌, ◌/◌, ◌<◌, ◌≤◌, ◌^◌, List, ◌++◌, length, take, drop, refl, sym, ap, ◌∙◌, arith, length-append, length-drop}
 use Rattle.std.specs.List.{AllByRecursion, slice_get}
 use Rattle.std.proofs.lemmas.Option.{slice_get-get_or}
 use Rattle.std.proofs.lemmas.List.{take_all, take_at, drop_at, drop-drop, take-take, length-take-le, take-append-drop}
@@ -14,7 +14,7 @@ use Rattle.hl_bytes.proofs.PageLemmas.{take-page_over, drop-page_over}
 use Rattle.hl_bytes.proofs.Decoding.{read32, read64}
 use Rattle.hl_bytes.proofs.RunLemmas.{get_or-run_at, u64_fits}
 use Rattle.hl_bytes.proofs.RecordLemmas.{length-block_records, length-block_records_at, read_block_records, block_records_fit, front_block_records}
-use Rattle.hl_tseg.specs.Segments.{IsSegmentHead, SegmentHead, SpellsSegment, head_fields, segment_magic}
+use Rattle.hl_tseg.specs.Segments.{IsSegmentHead, SegmentHead, head_fields, segment_magic}
 use Rattle.hl_view.specs.Lines.{IsLineSeen, IsSegment, IsTested, MayBeSealed, head_in, head_with}
 
 -- how long the fields of block 0 are
