@@ -74,8 +74,9 @@ fn site(alloc: Global) -> Result<Geometry, Fail> {
 /// Four blocks: one for a head, two of data, 1 and 2 in their first bytes, and one of zeros.
 fn filled(alloc: Global) -> Result<SegBuf, Fail> {
     let mut buf = SegBuf::new(alloc, 4)?;
-    buf.block_mut(1)[0] = 1;
-    buf.block_mut(2)[0] = 2;
+    let blocks = buf.part_mut(1, 2);
+    blocks[0] = 1;
+    blocks[BLOCK] = 2;
     Ok(buf)
 }
 
