@@ -1,2 +1,3 @@
 pub mod SummaryLemmas
 pub mod SealLemmas
+pub mod ReadingLemmas

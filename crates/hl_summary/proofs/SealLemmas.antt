@@ -17,10 +17,6 @@ use Rattle.hl_summary.proofs.SummaryLemmas.{length-fields, whole_is, behind_is}
 pub same_summary : (s : Summary) (h : Heading) (blocks : List BlockRecord) (tables : List TableRecord) → blocks ≡ s.blocks → tables ≡ s.tables → with_records h s.blocks s.tables ≡ s → with_records h blocks tables ≡ s
 same_summary s h blocks tables blocks_are tables_are is = ap (λ (l : List BlockRecord). with_records h l tables) blocks_are ∙ ap (λ (l : List TableRecord). with_records h s.blocks l) tables_are ∙ is
 
--- the summary and a block for each record
-pub whole_by : (s : Summary) (part : List ℕ) (records : List BlockRecord) → records ≡ s.blocks → take (4096 * (1 + length records)) part ≡ take (4096 * (1 + length s.blocks)) part
-whole_by s part records are = ap (λ (l : List BlockRecord). take (4096 * (1 + length l)) part) are
-
 -- the bytes that are tested for the fields `from` and the digest are spelled exactly where both are right
 module _ (s : Summary) (part whole from : List ℕ) (end : ℕ) (room : HasRoom s) (is_whole : whole ≡ take (4096 * (1 + length s.blocks)) part) (is_end : end ≡ 1960 + 24 * length s.tables) (fields : from ≡ summary_fields s) where
   from_end : 0 + length from ≡ end
@@ -42,9 +38,6 @@ module _ (s : Summary) (part whole from : List ℕ) (end : ℕ) (room : HasRoom 
       let count : length (summary_fields s) ≡ end = omega (arith, length-fields s room, is_end) in
       let le : end ≤ 4064 = omega (arith, room.tables, is_end) in
       take-page_over whole (summary_fields s) (part_of part 1 (length s.blocks)) end (whole_spelled is) count le
-
-  pub spelled_front : part_of part 0 (1 + length s.blocks) ≡ part_bytes s (part_of part 1 (length s.blocks)) → take (0 + length from) whole ≡ take 0 whole ++ from
-  spelled_front is = ap (λ (k : ℕ). take k whole) from_end ∙ whole_head is ∙ sym fields
 
   pub spelled_sealed : part_of part 0 (1 + length s.blocks) ≡ part_bytes s (part_of part 1 (length s.blocks)) → whole ≡ page_over (take end whole) (drop 4096 whole)
   spelled_sealed is =

@@ -18,7 +18,7 @@ use Rattle.hl_summary.specs.declared.parts.Summary.{Summary}
 use Rattle.hl_summary.specs.Parts.{HasRoom, HasRanges, IsSummary, Spells, ends_code, ends_of, summary_head, summary_middle, summary_fields, summary_in}
 
 -- how long the fields before the table records are, and all fields
-length-middle : (s : Summary) → HasRoom s → length (summary_middle s) ≡ 1960
+pub length-middle : (s : Summary) → HasRoom s → length (summary_middle s) ≡ 1960
 unfolding le32 le64 zeros
 length-middle s room =
     let X = block_records_bytes s.blocks in
@@ -40,7 +40,7 @@ unfolding part_of
 behind_is part n = let e : 4096 * (1 + n) ≡ 4096 + 4096 * n = omega arith in ap (λ (k : ℕ). drop 4096 (take k part)) e ∙ drop-take 4096 (4096 * n) part
 
 -- the fields at the front of a part that a summary spells
-front_fields : (part behind : List ℕ) (s : Summary) → HasRoom s → part_of part 0 (1 + length s.blocks) ≡ page_over (summary_fields s) behind → take (1960 + 24 * length s.tables) part ≡ summary_fields s
+pub front_fields : (part behind : List ℕ) (s : Summary) → HasRoom s → part_of part 0 (1 + length s.blocks) ≡ page_over (summary_fields s) behind → take (1960 + 24 * length s.tables) part ≡ summary_fields s
 front_fields part behind s room is =
     let end = 1960 + 24 * length s.tables in
     let size = 4096 * (1 + length s.blocks) in
@@ -49,7 +49,7 @@ front_fields part behind s room is =
     sym (take-take end size part short) ∙ take-page_over (take size part) (summary_fields s) behind end (sym (whole_is part (length s.blocks)) ∙ is) (length-fields s room) le
 
 -- whether a part ends a unit has room in its field, and is read from it
-code_fits : (ends : Bool) → ends_code ends < 2 ^ 32
+pub code_fits : (ends : Bool) → ends_code ends < 2 ^ 32
 code_fits true = lit< tt
 code_fits false = lit< tt
 

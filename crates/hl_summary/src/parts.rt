@@ -1,16 +1,15 @@
 //! A part of the log.
 
-ghost use Rattle.std.specs.Prelude.{◌≡◌, ◌≤◌, ◌+◌, ◌-◌, ◌*◌, ◌++◌, ◌↔◌, ℕ, List as Items, Some, IsNone, IsTrue, IfOk, length, take};
+ghost use Rattle.std.specs.Prelude.{◌≡◌, ◌≤◌, ◌+◌, ◌-◌, ◌*◌, ◌++◌, ◌↔◌, ℕ, List as Items, Some, IsNone, IfOk, length, take};
 ghost use Rattle.hl_addr.specs.Layout.{Layout};
 ghost use Rattle.hl_bytes.specs.Buffers.{part_of};
-ghost use Rattle.hl_summary.specs.Parts.{Checks, HasFitting, HasRanges, HasRoom, IsSpelled, Spells, ends_code, ends_of, part_bytes, summary_fields, summary_in, with_records};
+ghost use Rattle.hl_summary.specs.Parts.{Checks, HasFitting, HasRoom, Spells, ends_code, ends_of, part_bytes, summary_fields, summary_in, with_records};
 
-use crate::ranges::{are_blocks_of, are_changes_of, is_next_place, is_place};
+use crate::reading::is_part;
 use hl_addr::Geometry;
 use hl_bytes::{
     BLOCK, BlockRecord, TableRecord, end_page_over, get_block_records, get_table_records, get_u32,
-    get_u64, has_bytes, is_page_over, put_block_records, put_bytes, put_table_records, put_u32,
-    put_u64, put_zeros,
+    get_u64, put_block_records, put_bytes, put_table_records, put_u32, put_u64, put_zeros,
 };
 use hl_tree::List;
 use std::alloc::{AllocError, Global};
@@ -41,7 +40,7 @@ pub struct Heading {
     pub ends: bool,
 }
 
-const MAGIC: [u8; 8] = *b"HLPART01";
+pub(crate) const MAGIC: [u8; 8] = *b"HLPART01";
 
 /// The most block records that have room in a summary, and so the most blocks of a part.
 pub const BLOCKS_MAX: usize = 240;
@@ -50,10 +49,10 @@ pub const BLOCKS_MAX: usize = 240;
 pub const TABLES_MAX: usize = 80;
 
 /// Where the block records begin.
-const BLOCKS_AT: usize = 40;
+pub(crate) const BLOCKS_AT: usize = 40;
 
 /// Where the table records begin.
-const TABLES_AT: usize = 1_960;
+pub(crate) const TABLES_AT: usize = 1_960;
 
 fn ends_code(ends: bool) -> u32
     ensures { result ≡ ends_code ends }
@@ -145,69 +144,9 @@ fn summary_in(alloc: Global, part: &[u8]) -> Result<Summary, AllocError>
     })
 }
 
-/// Whether the fields are in their ranges, at the place on the site.
-fn has_ranges(summary: &Summary, seg: u32, block: u32, geometry: &Geometry) -> bool
-    requires { HasRoom summary.now }
-    ensures { IsTrue result ↔ HasRanges geometry.now seg block summary.now }
-{
-    let blocks = summary.blocks.items();
-    let count = blocks.len() as u32;
-    is_place(seg, block, geometry)
-        && block as u64 + count as u64 + 1 <= geometry.k as u64
-        && is_next_place(
-            seg,
-            block,
-            count,
-            summary.next_seg,
-            summary.next_block,
-            geometry,
-        )
-        && are_blocks_of(geometry.inodes, geometry.table_blocks(), blocks)
-        && are_changes_of(
-            geometry.inodes,
-            geometry.slots(),
-            geometry.volumes.items().len() as u32,
-            summary.tables.items(),
-        )
-}
-
-/// Whether the bytes begin with the part that the summary spells over the blocks behind it.
-fn is_spelled(summary: &Summary, part: &[u8]) -> bool
-    requires room { HasRoom summary.now }
-    requires size { 4096 * (1 + length summary.now.blocks) ≤ length part.now }
-    ensures { IsTrue result ↔ IsSpelled summary.now part.now }
-{
-    let blocks = summary.blocks.items();
-    let tables = summary.tables.items();
-    let end = TABLES_AT + 24 * tables.len();
-    let mut own = [0; BLOCK];
-    put_fields(heading_of(summary), blocks, tables, &mut own);
-    let whole = &part[..BLOCK * (1 + blocks.len())];
-    has_bytes(whole, 0, &own[..end]) && is_page_over(whole, end)
-}
-
-/// Whether the bytes from the place to the segment's end begin with a part of the serial that the
-/// summary spells.
-fn is_part(
-    summary: &Summary,
-    part: &[u8],
-    seg: u32,
-    block: u32,
-    serial: u64,
-    geometry: &Geometry,
-) -> bool
-    requires room { HasRoom summary.now }
-    requires size { length part.now ≡ 4096 * (geometry.now.k - block) }
-    ensures { let s = summary.now in
-        IsTrue result ↔ (HasRanges geometry.now seg block s × (s.serial ≡ serial) × IsSpelled s part.now) }
-{
-    has_ranges(summary, seg, block, geometry)
-        && summary.serial == serial
-        && is_spelled(summary, part)
-}
-
 /// The summary of the part with this serial at a place, where `part` runs from the place to the
-/// segment's end. None exactly where no part of the serial is spelled there.
+/// segment's end. None exactly where no part of the serial is spelled there; it takes memory only
+/// where one is.
 pub fn check(
     alloc: Global,
     part: &[u8],
@@ -222,13 +161,9 @@ pub fn check(
     ensures none { let Is = Spells geometry.now seg block serial part.now in
         IfOk result (λ r. IsNone r ↔ ((v : Summary) → ¬ Is v)) }
 {
-    if !is_place(seg, block, geometry) {
+    if !is_part(part, seg, block, serial, geometry) {
         return Ok(None);
     }
     let summary = summary_in(alloc, part)?;
-    if is_part(&summary, part, seg, block, serial, geometry) {
-        Ok(Some(summary))
-    } else {
-        Ok(None)
-    }
+    Ok(Some(summary))
 }

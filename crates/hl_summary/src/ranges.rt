@@ -1,6 +1,6 @@
 //! What may stand in the summary of a part.
 
-ghost use Rattle.std.specs.Prelude.{◌≡◌, ◌≤◌, ◌+◌, ◌↔◌, ℕ, All, IsTrue, length};
+ghost use Rattle.std.specs.Prelude.{◌≡◌, ◌≤◌, ◌+◌, ◌↔◌, ℕ, IsTrue};
 ghost use Rattle.hl_summary.specs.Ranges.{IsBlockOf, IsChangeOf, IsInodeIndex, IsInodeNumber, IsNextPlace, IsPlace};
 
 use hl_addr::Geometry;
@@ -59,7 +59,7 @@ fn is_inode_index(index: u32) -> bool
 }
 
 /// Whether the record is of a block of an inode, or of one of the table blocks.
-fn is_block_of(inodes: u32, tables: u32, block: &BlockRecord) -> bool
+pub(crate) fn is_block_of(inodes: u32, tables: u32, block: &BlockRecord) -> bool
     ensures { IsTrue result ↔ IsBlockOf inodes tables block.now }
 {
     if block.index == TABLE {
@@ -69,18 +69,9 @@ fn is_block_of(inodes: u32, tables: u32, block: &BlockRecord) -> bool
     }
 }
 
-/// Whether each record is of a block of an inode, or of one of the table blocks.
-pub(crate) fn are_blocks_of(inodes: u32, tables: u32, blocks: &[BlockRecord]) -> bool
-    ensures { IsTrue result ↔ All (IsBlockOf inodes tables) blocks.now }
-{
-    blocks
-        .iter()
-        .all(|block| is_block_of(inodes, tables, block))
-}
-
 /// Whether the record is one of the five changes of the tables, on a site of so many inode numbers,
 /// slots and volumes.
-fn is_change_of(inodes: u32, slots: u32, volumes: u32, change: &TableRecord) -> bool
+pub(crate) fn is_change_of(inodes: u32, slots: u32, volumes: u32, change: &TableRecord) -> bool
     ensures { IsTrue result ↔ IsChangeOf inodes slots volumes change.now }
 {
     match change.kind {
@@ -91,13 +82,4 @@ fn is_change_of(inodes: u32, slots: u32, volumes: u32, change: &TableRecord) -> 
         5 => change.a < volumes && change.b == 0 && change.serial == 0,
         _ => false,
     }
-}
-
-/// Whether each record is one of the five changes of the tables.
-pub(crate) fn are_changes_of(inodes: u32, slots: u32, volumes: u32, changes: &[TableRecord]) -> bool
-    ensures { IsTrue result ↔ All (IsChangeOf inodes slots volumes) changes.now }
-{
-    changes
-        .iter()
-        .all(|change| is_change_of(inodes, slots, volumes, change))
 }

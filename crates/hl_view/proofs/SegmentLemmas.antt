@@ -1,5 +1,5 @@
 -- A segment that is tested is one that was spelled.
-use Rattle.std.proofs.Common.{◌≡◌, ℕ, Some, ◌+◌, ◌-◌, ◌*◌, ◌/◌, ◌<◌, ◌≤◌, ◌^◌, ◌↔◌, min, List, ◌++◌, length, take, drop, refl, sym, ap, ◌∙◌, arith, length-append, length-drop}
+use Rattle.std.proofs.Common.{◌≡◌, ℕ, Some, ◌+◌, ◌-◌, ◌*◌, ◌/◌, ◌<◌, ◌≤◌, ◌^◌, List, ◌++◌, length, take, drop, refl, sym, subst, ap, ◌∙◌, arith, length-append, length-drop}
 use Rattle.std.specs.List.{AllByRecursion, slice_get}
 use Rattle.std.proofs.lemmas.Option.{slice_get-get_or}
 use Rattle.std.proofs.lemmas.List.{take_all, take_at, drop_at, drop-drop, take-take, length-take-le, take-append-drop}
@@ -14,7 +14,7 @@ use Rattle.hl_bytes.proofs.PageLemmas.{take-page_over, drop-page_over}
 use Rattle.hl_bytes.proofs.Decoding.{read32, read64}
 use Rattle.hl_bytes.proofs.RunLemmas.{get_or-run_at, u64_fits}
 use Rattle.hl_bytes.proofs.RecordLemmas.{length-block_records, length-block_records_at, read_block_records, block_records_fit, front_block_records}
-use Rattle.hl_tseg.specs.Segments.{IsSegmentHead, SegmentHead, SpellsSegment, head_fields, segment_magic}
+use Rattle.hl_tseg.specs.Segments.{IsSegmentHead, SegmentHead, head_fields, segment_magic}
 use Rattle.hl_view.specs.Lines.{IsLineSeen, IsSegment, IsTested, MayBeSealed, head_in, head_with}
 
 -- how long the fields of block 0 are
@@ -138,6 +138,14 @@ sealed old out new fields end room size le put is =
     let head : take end out ≡ fields = ap (take end) put ∙ put_front old fields 0 end (omega arith) (omega (arith, size)) in
     let back : drop 4096 out ≡ drop 4096 old = ap (drop 4096) put ∙ drop-written old fields 0 4096 (omega arith) (omega (arith, size, le)) in
     is ∙ ap (λ (l : List ℕ). page_over l (drop 4096 out)) head ∙ ap (λ (l : List ℕ). page_over fields l) back
+
+-- zeros up to a buffer's end, where they are tested in the part of all its blocks
+pub zero_behind : (bytes part : List ℕ) (k n : ℕ) → part ≡ part_of bytes 0 k → length bytes ≡ 4096 * k → n ≤ k → take (4096 * k) part ≡ take (4096 * n) part ++ zeros (4096 * k - 4096 * n) → drop (4096 * n) bytes ≡ zeros (length bytes - 4096 * n)
+zero_behind bytes part k n is size le zero =
+    let same : part ≡ bytes = is ∙ whole_part bytes k (sym size) in
+    let low : 4096 * n ≤ length bytes = omega (arith, size, le) in
+    let tested : take (length bytes) part ≡ take (4096 * n) part ++ zeros (length bytes - 4096 * n) = subst (λ (m : ℕ). take m part ≡ take (4096 * n) part ++ zeros (m - 4096 * n)) (sym size) zero in
+    rest_zero bytes (4096 * n) low (subst (λ (b : List ℕ). take (length bytes) b ≡ take (4096 * n) b ++ zeros (length bytes - 4096 * n)) same tested)
 
 -- a buffer that is written as a whole
 pub with_whole : (bytes part : List ℕ) → length part ≡ length bytes → with_part bytes 0 part ≡ part

@@ -1,4 +1,4 @@
-use Rattle.std.proofs.Common.{List, ℕ, arith}
+use Rattle.std.proofs.Common.{arith}
 use Rattle.hl_view.proofs.SegmentLemmas.{tested, tests}
 use Rattle.hl_view.proofs.lines.is_segment.Goals as goal
 

@@ -1,4 +1,4 @@
-use Rattle.std.proofs.Common.{◌≡◌, ◌*◌, List, ℕ, length, drop, sym, ◌∙◌, ap, subst}
+use Rattle.std.proofs.Common.{◌≡◌, List, ℕ, length, drop, sym, ◌∙◌, ap, subst}
 use Rattle.hl_bytes.specs.Pages.{page_over}
 use Rattle.hl_tseg.specs.Segments.{head_fields}
 use Rattle.hl_view.specs.Lines.{IsSegment, head_with}

@@ -1,5 +1,5 @@
-use Rattle.std.proofs.Common.{◌≡◌, ◌+◌, ◌*◌, List, ℕ, ◌++◌, length, refl, arith}
-use Rattle.hl_bytes.specs.Fields.{le32, le64, written, zeros}
+use Rattle.std.proofs.Common.{◌+◌, ◌*◌, ◌++◌, length, refl, arith}
+use Rattle.hl_bytes.specs.Fields.{le32, le64, zeros}
 use Rattle.hl_bytes.specs.Records.{block_records_bytes}
 use Rattle.hl_bytes.proofs.Places.{written_on}
 use Rattle.hl_tseg.specs.Segments.{head_fields, segment_magic}

@@ -1,4 +1,4 @@
-use Rattle.std.proofs.Common.{◌≡◌, length, sym, ◌∙◌, ap}
+use Rattle.std.proofs.Common.{length, sym, ◌∙◌, ap}
 use Rattle.hl_view.specs.declared.lines.LineView.{LineView}
 use Rattle.hl_view.proofs.SegmentLemmas.{count_in}
 use Rattle.hl_view.proofs.lines.LineView.len.Goals as goal

@@ -1,4 +1,4 @@
-use Rattle.std.proofs.Common.{◌≡◌, ◌↔◌, Some, None, Option, List, ℕ, subst, sym, ◌∙◌}
+use Rattle.std.proofs.Common.{◌≡◌, ◌↔◌, Some, None, Option, List, ℕ, subst, ◌∙◌}
 use Rattle.hl_bytes.proofs.Decoding.{accepted, refused, none_exactly}
 use Rattle.hl_tseg.specs.Segments.{SegmentHead}
 use Rattle.hl_view.specs.Lines.{IsSegment, head_in}
