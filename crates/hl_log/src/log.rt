@@ -10,7 +10,7 @@ ghost use Rattle.hl_log.specs.Cut.{HasClean, IsPlan, Plans};
 ghost use Rattle.hl_log.specs.Free.{AreClean};
 ghost use Rattle.hl_log.specs.Checkpoints.{Checkpoints, Drafts, IsOf, given_by};
 ghost use Rattle.hl_log.specs.Loads.{AreOf, bytes_of_tables};
-ghost use Rattle.hl_addr.specs.Layout.{table_blocks};
+ghost use Rattle.hl_addr.specs.Layout.{IsWithinLimits, table_blocks};
 ghost use Rattle.hl_log.specs.Logs.{CheckpointEnds, Opens, RestStays, UnitEnds, opened_at, opened_log, site_blocks, unit_of, with_machine};
 ghost use Rattle.hl_log.specs.Rest.{SaysNothing};
 ghost use Rattle.hl_log.specs.Units.{WritesUnit};
@@ -112,9 +112,11 @@ impl<M: Machine> Log<M> {
         (self.at.head.seg, self.at.head.block)
     }
 
-    /// The site.
+    /// The site, whose segments the machine has.
     pub fn geometry(&self) -> &Geometry
-        ensures { result.now ≡ self.now.geometry }
+        ensures value { result.now ≡ self.now.geometry }
+        ensures limits { IsWithinLimits result.now }
+        ensures room { site_blocks result.now ≤ M.blocks self.now.machine }
     {
         &self.geometry
     }
