@@ -8,5 +8,4 @@ mod tests;
 mod trial;
 mod units;
 
-pub use sites::{large, small};
-pub use trial::Trial;
+pub use trial::{Stoppable, Trial};

@@ -8,7 +8,7 @@ ghost use Rattle.hl_log_trial.specs.Units.{IsOfSite};
 
 use crate::sites::{label, record};
 use hl_addr::Geometry;
-use hl_bytes::{BLOCK, Block};
+use hl_bytes::{BLOCK, Block, put_zeros};
 use hl_image::chain_parts;
 use hl_log::{Log, Unit, UnitAnswer};
 use hl_media::Machine;
@@ -61,6 +61,47 @@ fn is_log_place(site: &Geometry, seg: u32, block: u32) -> bool
     1 <= seg && seg <= site.log && block as u64 + 2 <= site.k as u64
 }
 
+/// A machine whose disk has these bytes; none where they are no disk of the site.
+fn machine_of(
+    alloc: Global,
+    site: &Geometry,
+    image: &[u8],
+) -> Result<Option<MemMachine>, AllocError>
+    ensures { IfOk result (λ machine. IfSome machine (λ m. site_blocks site.now ≤ m.blocks)) }
+{
+    let Some(blocks) = disk_blocks(site) else {
+        return Ok(None);
+    };
+    if image.len() != BLOCK * blocks as usize {
+        return Ok(None);
+    }
+    let machine = MemMachine::of_image(alloc, image)?;
+    if machine.blocks() < blocks {
+        return Ok(None);
+    }
+    Ok(Some(machine))
+}
+
+/// The log of a machine, whose chain ends at this place before this serial; none where no part may begin there.
+fn open_at(
+    alloc: Global,
+    machine: MemMachine,
+    site: &Geometry,
+    rec: Record,
+    end: (u32, u32),
+    serial: u64,
+) -> Result<Option<Log<MemMachine>>, AllocError>
+    requires { site_blocks site.now ≤ machine.blocks }
+{
+    if !is_log_place(site, end.0, end.1) {
+        return Ok(None);
+    }
+    match Log::open(alloc, machine, site, rec, end, serial) {
+        Ok(log) => Ok(Some(log)),
+        Err(_) => Err(AllocError),
+    }
+}
+
 /// The log of a disk with these bytes, opened at the end of the cut chain that starts at a block of segment 1. None where
 /// they are no disk of the site, or the chain ends where no part may begin.
 pub fn open_on(
@@ -73,19 +114,17 @@ pub fn open_on(
     let Some((seg, block, serial)) = chain_end(alloc, site, image, &rec)? else {
         return Ok(None);
     };
-    let Some(blocks) = disk_blocks(site) else {
-        return Ok(None);
-    };
-    if !is_log_place(site, seg, block) || image.len() != BLOCK * blocks as usize {
-        return Ok(None);
+    match machine_of(alloc, site, image)? {
+        Some(machine) => open_at(alloc, machine, site, rec, (seg, block), serial),
+        None => Ok(None),
     }
-    let machine = MemMachine::of_image(alloc, image)?;
-    if machine.blocks() < blocks {
-        return Ok(None);
-    }
-    match Log::open(alloc, machine, site, rec, (seg, block), serial) {
-        Ok(log) => Ok(Some(log)),
-        Err(_) => Err(AllocError),
+}
+
+/// Loses a block of an image: it becomes zeros, if the image has it.
+pub fn lose(image: &mut [u8], block: u32) {
+    let start = BLOCK * block as usize;
+    if start + BLOCK <= image.len() {
+        put_zeros(image, start, start + BLOCK);
     }
 }
 
