@@ -8,6 +8,7 @@ pub mod Unfolding
 pub mod Units
 pub mod Batching
 pub mod Resting
+pub mod Readings
 pub mod Records
 pub mod TwoPhases
 pub mod Tables

@@ -16,7 +16,7 @@ use Rattle.hl_log.specs.declared.unit.UnitAnswer.{UnitAnswer}
 use Rattle.hl_log.specs.declared.unit.UnitAnswer.TheVariants as answer
 use Rattle.hl_log.specs.Free.{IsFree, AreClean}
 use Rattle.hl_log.specs.Cut.{HasClean}
-use Rattle.hl_log.specs.Rest.{IsAtRest, OnlyFrom, Stays, IsSynced}
+use Rattle.hl_log.specs.Rest.{IsAtRest, IsUnchanged, OnlyFrom, Stays, IsSynced}
 use Rattle.hl_log.specs.Units.{Brought, HasWritten, UnitGoesOn, HasCleanFor, moved}
 use Rattle.hl_log.specs.Checkpoints.{Given, HasCheckpointed, IsRecordBehind, restarted_at}
 use Rattle.hl_log.specs.declared.unit.Unit.{Unit as LogUnit}
@@ -147,6 +147,15 @@ pub record Succeeded {M : Type 0} (history : M → Option History) (faults write
   pub faults_same : faults now.machine ≡ faults before.machine
   pub write_faults_same : write_faults now.machine ≡ write_faults before.machine
   pub synced : Now (history now.machine) IsSynced
+
+-- only reads were made, of which some may have failed
+pub record OnlyReads {M : Type 0} (history : M → Option History)
+    (blocks faults write_faults say_faults : M → ℕ) (before now : M) : Type 0 where
+  pub unchanged : Runs (history before) (history now) IsUnchanged
+  pub blocks_same : blocks now ≡ blocks before
+  pub faults_most : faults before ≤ faults now
+  pub write_faults_same : write_faults now ≡ write_faults before
+  pub say_faults_same : say_faults now ≡ say_faults before
 
 -- The unit was written, with so many of the clean segments.
 pub record UnitIsWritten {M : Type 0} (history : M → Option History) (faults write_faults : M → ℕ)

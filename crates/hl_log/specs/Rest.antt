@@ -67,6 +67,10 @@ abbrev pub Stays : Layout → Position → MachineState → MachineState → Typ
 Stays g p first s = (clean : List ℕ) (parts : List Summary) → IsAtRest g p clean parts first
     → IsAtRest g p clean parts s
 
+-- nothing on the machine changes
+abbrev pub IsUnchanged : MachineState → MachineState → Type 0
+IsUnchanged first s = s ≡ first
+
 -- nothing is said
 abbrev pub SaysNothing : MachineState → MachineState → Type 0
 SaysNothing first s = s.said ≡ first.said

@@ -11,7 +11,7 @@ ghost use Rattle.hl_log.specs.Free.{AreClean};
 ghost use Rattle.hl_log.specs.Checkpoints.{Checkpoints, Drafts, IsOf, given_by};
 ghost use Rattle.hl_log.specs.Loads.{AreOf, bytes_of_tables};
 ghost use Rattle.hl_addr.specs.Layout.{IsWithinLimits, table_blocks};
-ghost use Rattle.hl_log.specs.Logs.{CheckpointEnds, Opens, RestStays, UnitEnds, opened_at, opened_log, site_blocks, unit_of, with_machine};
+ghost use Rattle.hl_log.specs.Logs.{CheckpointEnds, OnlyReads, Opens, RestStays, UnitEnds, opened_at, opened_log, site_blocks, unit_of, with_machine};
 ghost use Rattle.hl_log.specs.Rest.{SaysNothing};
 ghost use Rattle.hl_log.specs.Units.{WritesUnit};
 
@@ -345,6 +345,20 @@ impl<M: Machine> Log<M> {
         ensures faults { HasCause (M.faults self.old.machine) (M.faults self.new.machine) result }
         ensures write_faults { M.write_faults self.new.machine ≡ M.write_faults self.old.machine }
         ensures say_faults { M.say_faults self.new.machine ≡ M.say_faults self.old.machine }
+    {
+        self.machine.read(at, out)
+    }
+
+    /// Reads one block of the site.
+    pub fn read_block(&mut self, at: u32, out: &mut [u8]) -> Result<(), Failed>
+        requires size { length out.old ≡ 4096 }
+        requires within { at < site_blocks self.old.geometry }
+        ensures bytes { OnOk result (Now (M.history self.old.machine) (λ s. s.content at ≡ out.new)) }
+        ensures size { length out.new ≡ 4096 }
+        ensures machine { OnlyReads M.history M.blocks M.faults M.write_faults M.say_faults
+            self.old.machine self.new.machine }
+        ensures fault { HasCause (M.faults self.old.machine) (M.faults self.new.machine) result }
+        ensures same { self.new ≡ with_machine self.old self.new.machine }
     {
         self.machine.read(at, out)
     }
