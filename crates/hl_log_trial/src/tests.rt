@@ -25,6 +25,82 @@ fn large<T: Stoppable>(rt: &impl Abort, alloc: Global) -> Result<T, Fail> {
     }
 }
 
+fn written<T: Stoppable>(
+    rt: &impl Abort,
+    alloc: Global,
+    trial: &mut T,
+    blocks: u32,
+    byte: u8,
+    changes: u32,
+) -> Result<(), Fail>
+    requires { blocks ≤ 1036 }
+{
+    assert!(rt; trial.write(alloc, blocks, byte, changes)?);
+    Ok(())
+}
+
+fn checkpointed<T: Stoppable>(rt: &impl Abort, alloc: Global, trial: &mut T) -> Result<(), Fail> {
+    assert!(rt; trial.checkpoint(alloc)?);
+    Ok(())
+}
+
+/// Opens the log that a stop at a moment leaves, with a block that is lost.
+fn reopened<T: Stoppable>(
+    rt: &impl Abort,
+    alloc: Global,
+    trial: &mut T,
+    moment: u64,
+    lost: Option<u32>,
+) -> Result<(), Fail> {
+    assert!(rt; trial.reopen(alloc, moment, lost)?);
+    Ok(())
+}
+
+/// A stop at a moment leaves a cut chain of so many parts, whatever becomes of unsynced writes.
+fn leaves_parts<T: Stoppable>(
+    rt: &impl Abort,
+    alloc: Global,
+    trial: &T,
+    moment: u64,
+    parts: usize,
+) -> Result<(), Fail> {
+    for tear in TEARS {
+        assert!(rt; trial.parts(alloc, moment, tear)? == Some(parts));
+    }
+    Ok(())
+}
+
+/// A stop at a moment leaves one of two newest records, each by its number and how many parts its cut chain has.
+fn leaves_record<T: Stoppable>(
+    rt: &impl Abort,
+    alloc: Global,
+    trial: &T,
+    moment: u64,
+    either: [(u64, usize); 2],
+) -> Result<(), Fail> {
+    for tear in TEARS {
+        let found = trial.newest(alloc, moment, tear)?;
+        assert!(rt; found == Some(either[0]) || found == Some(either[1]));
+    }
+    Ok(())
+}
+
+/// A stop at a moment leaves a cut chain of as many parts as before, or as after.
+fn leaves_one_of<T: Stoppable>(
+    rt: &impl Abort,
+    alloc: Global,
+    trial: &T,
+    moment: u64,
+    before: usize,
+    after: usize,
+) -> Result<(), Fail> {
+    for tear in TEARS {
+        let found = trial.parts(alloc, moment, tear)?;
+        assert!(rt; found == Some(before) || found == Some(after));
+    }
+    Ok(())
+}
+
 /// Each stop from a moment on leaves a cut chain of as many parts as before, or as after.
 fn leaves_either<T: Stoppable>(
     rt: &impl Abort,
@@ -36,13 +112,9 @@ fn leaves_either<T: Stoppable>(
 ) -> Result<(), Fail> {
     let end = trial.now();
     for moment in start..end {
-        for tear in TEARS {
-            let found = trial.parts(alloc, moment, tear)?;
-            assert!(rt; found == Some(before) || found == Some(after));
-        }
+        leaves_one_of(rt, alloc, trial, moment, before, after)?;
     }
-    assert!(rt; trial.parts(alloc, end, Tear::Old)? == Some(after));
-    Ok(())
+    leaves_parts(rt, alloc, trial, end, after)
 }
 
 /// Each stop while a unit is written behind an empty one leaves the cut chain as it was, or with all its parts.
@@ -56,9 +128,9 @@ fn is_whole_or_absent<T: Stoppable + Drop>(
     requires { blocks ≤ 1036 }
 {
     let mut trial = small::<T>(rt, alloc, 59)?;
-    assert!(rt; trial.write(alloc, 0, 5, 0)?);
+    written(rt, alloc, &mut trial, 0, 5, 0)?;
     let start = trial.now();
-    assert!(rt; trial.write(alloc, blocks, 6, changes)?);
+    written(rt, alloc, &mut trial, blocks, 6, changes)?;
     leaves_either(rt, alloc, &trial, start, 1, after)
 }
 
@@ -84,9 +156,9 @@ fn a_unit_of_table_records_alone_is_whole_or_absent(rt: HostRuntime) -> Result<(
 /// and synced, end at moment 12; those behind the second part, and that part, at moment 20.
 fn with_two_parts<T: Stoppable + Drop>(rt: &impl Abort, alloc: Global) -> Result<T, Fail> {
     let mut trial = small::<T>(rt, alloc, 60)?;
-    assert!(rt; trial.write(alloc, 5, 5, 0)?);
-    assert!(rt; trial.parts(alloc, 12, Tear::New)? == Some(0));
-    assert!(rt; trial.now() == 20 && trial.parts(alloc, 20, Tear::New)? == Some(2));
+    written(rt, alloc, &mut trial, 5, 5, 0)?;
+    leaves_parts(rt, alloc, &trial, 12, 0)?;
+    leaves_parts(rt, alloc, &trial, 20, 2)?;
     Ok(trial)
 }
 
@@ -99,13 +171,9 @@ fn finds_no_second_part<T: Stoppable + Drop>(
     lost: Option<u32>,
 ) -> Result<(), Fail> {
     let mut trial = with_two_parts::<T>(rt, alloc)?;
-    assert!(rt; trial.reopen(alloc, moment, lost)?);
-    assert!(rt; trial.write(alloc, 5, 6, 0)?);
-    for tear in TEARS {
-        let found = trial.parts(alloc, 12, tear)?;
-        assert!(rt; found == Some(0));
-    }
-    Ok(())
+    reopened(rt, alloc, &mut trial, moment, lost)?;
+    written(rt, alloc, &mut trial, 5, 6, 0)?;
+    leaves_parts(rt, alloc, &trial, 12, 0)
 }
 
 #[test]
@@ -129,8 +197,8 @@ fn goes_on<T: Stoppable + Drop>(
     after: usize,
 ) -> Result<(), Fail> {
     let mut trial = with_two_parts::<T>(rt, alloc)?;
-    assert!(rt; trial.reopen(alloc, moment, None)?);
-    assert!(rt; trial.write(alloc, 5, 6, 0)?);
+    reopened(rt, alloc, &mut trial, moment, None)?;
+    written(rt, alloc, &mut trial, 5, 6, 0)?;
     leaves_either(rt, alloc, &trial, 0, before, after)
 }
 
@@ -147,19 +215,15 @@ fn a_unit_behind_the_cut_chain_of_a_disk_is_whole_or_absent(rt: HostRuntime) -> 
 /// Each stop while a second checkpoint is written leaves the first one's record with its unit, or the second one's.
 fn has_one_record<T: Stoppable + Drop>(rt: &impl Abort, alloc: Global) -> Result<(), Fail> {
     let mut trial = small::<T>(rt, alloc, 0)?;
-    assert!(rt; trial.checkpoint(alloc)?);
-    assert!(rt; trial.write(alloc, 3, 9, 0)?);
+    checkpointed(rt, alloc, &mut trial)?;
+    written(rt, alloc, &mut trial, 3, 9, 0)?;
     let start = trial.now();
-    assert!(rt; trial.checkpoint(alloc)?);
+    checkpointed(rt, alloc, &mut trial)?;
     let end = trial.now();
     for moment in start..end {
-        for tear in TEARS {
-            let found = trial.newest(alloc, moment, tear)?;
-            assert!(rt; found == Some((1, 1)) || found == Some((2, 0)));
-        }
+        leaves_record(rt, alloc, &trial, moment, [(1, 1), (2, 0)])?;
     }
-    assert!(rt; trial.newest(alloc, end, Tear::Old)? == Some((2, 0)));
-    Ok(())
+    leaves_record(rt, alloc, &trial, end, [(2, 0), (2, 0)])
 }
 
 #[test]
@@ -170,13 +234,12 @@ fn a_checkpoint_has_the_old_record_or_the_new_one(rt: HostRuntime) -> Result<(),
 /// On the large site a part takes 240 blocks, and a checkpoint the 256 blocks of the tables.
 fn takes_the_most<T: Stoppable + Drop>(rt: &impl Abort, alloc: Global) -> Result<(), Fail> {
     let mut trial = large::<T>(rt, alloc)?;
-    assert!(rt; trial.write(alloc, 240, 7, 0)?);
-    assert!(rt; trial.parts(alloc, trial.now(), Tear::Old)? == Some(1));
-    assert!(rt; trial.write(alloc, 241, 7, 0)?);
-    assert!(rt; trial.parts(alloc, trial.now(), Tear::Old)? == Some(3));
-    assert!(rt; trial.checkpoint(alloc)?);
-    assert!(rt; trial.newest(alloc, trial.now(), Tear::Old)? == Some((1, 0)));
-    Ok(())
+    written(rt, alloc, &mut trial, 240, 7, 0)?;
+    leaves_parts(rt, alloc, &trial, trial.now(), 1)?;
+    written(rt, alloc, &mut trial, 241, 7, 0)?;
+    leaves_parts(rt, alloc, &trial, trial.now(), 3)?;
+    checkpointed(rt, alloc, &mut trial)?;
+    leaves_record(rt, alloc, &trial, trial.now(), [(1, 0), (1, 0)])
 }
 
 #[test]
