@@ -1,0 +1,4 @@
+pub mod NodesNow
+pub mod Over
+pub mod Changes
+pub mod Units
