@@ -37,7 +37,7 @@ IsOfKind node kind = ForSome node (λ n. n.kind ≡ kind)
 pub record IsDraftOf (g : Layout) (image : Image) (c : Contents) (d : NodeDraft) : Type 0 where
   pub own : d.own ≡ slice_index c.tables.inodes d.ino
   pub kept : (i addr : ℕ) → where_is d.pointers i ≡ Kept addr → HasAddress g image c.tables d.ino (Content i) addr
-  pub kind : (i addr : ℕ) → where_is d.pointers i ≡ Kept addr → ForSome d.shape (λ shape. IsOfKind (get c.nodes d.ino) shape.kind)
+  pub kind : (i addr : ℕ) → i < 1036 → where_is d.pointers i ≡ Kept addr → ForSome d.shape (λ shape. IsOfKind (get c.nodes d.ino) shape.kind)
   pub single : d.single ≢ 4294967295 → IsNodeBlock g image c.tables d.ino Pointers d.single
   pub names : d.single ≢ 4294967295 → (i : ℕ) → 12 ≤ i → i < 1036 → where_is d.pointers i ≡ pointer_to (pointer_in image d.single (i - 12))
   pub as_read : d.changed ≡ false → IsAsRead (get c.nodes d.ino) d
@@ -52,6 +52,6 @@ pub record GoesInto (g : Layout) (slots : SlotTable) (d : NodeDraft) (addr seria
 -- segments of which the nodes now have blocks.
 pub record IsOver (g : Layout) (o : Overlaid) (image : Image) (c : Contents) : Type 0 where
   pub drafts : (k : ℕ) (d : NodeDraft) → slice_get o.overlay.drafts.items k ≡ Some d → IsDraftOf g image c d
-  pub away : (k : ℕ) (d : NodeDraft) (i addr serial position : ℕ) → slice_get o.overlay.drafts.items k ≡ Some d
+  pub away : (k : ℕ) (d : NodeDraft) (i addr serial position : ℕ) → slice_get o.overlay.drafts.items k ≡ Some d → i < 1036
       → where_is d.pointers i ≡ Moved addr serial position → GoesInto g o.slots d addr serial position
   pub slots : (ino : ℕ) (node : FlatNode) → get (nodes_now o c.nodes) ino ≡ Some node → KeepsSlots c.tables.slots o.slots node

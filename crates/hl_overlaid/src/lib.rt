@@ -4,4 +4,5 @@
 //! These are definitions, and the modules of laws state what holds of them.
 #![tactic(auto)]
 
+pub mod now_laws;
 pub mod unit_laws;
