@@ -4,3 +4,9 @@ pub mod UnitTables
 pub mod FarPointers
 pub mod UnitMakes
 pub mod DraftBlocks
+pub mod Following
+pub mod PutLemmas
+pub mod ShapeLemmas
+pub mod KeepLemmas
+pub mod ImageLemmas
+pub mod BehindLemmas

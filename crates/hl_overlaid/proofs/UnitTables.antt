@@ -21,14 +21,14 @@ use Rattle.hl_overlaid.proofs.NowLemmas.{none_some, one}
 use Rattle.hl_overlaid.proofs.UnitBlocks.{in_filter, map_at}
 
 -- the record of an inode's own block
-own_record : NodeDraft → BlockRecord
+pub own_record : NodeDraft → BlockRecord
 own_record d = record { ino = d.ino; index = 4294967295 }
 
-nowhere : NodeDraft → ℕ
+pub nowhere : NodeDraft → ℕ
 nowhere d = 4294967295
 
 -- to free numbers is to lay their inodes nowhere
-freed-placed : (t : TableValues) (ds : List NodeDraft) → fold changed t (map freed_record ds) ≡ blocks_placed t (map own_record ds) (map nowhere ds)
+pub freed-placed : (t : TableValues) (ds : List NodeDraft) → fold changed t (map freed_record ds) ≡ blocks_placed t (map own_record ds) (map nowhere ds)
 unfolding own_record nowhere
 freed-placed t [] = refl
 freed-placed t (d ∷ ds) = freed-placed (changed t (freed_record d)) ds

@@ -61,6 +61,10 @@ CanPut g before now d (Fresh bytes) = Unit {0}
 abbrev pub KeepsOtherUses : List ℕ → List ℕ → ℕ → Type 0
 KeepsOtherUses old new ino = (q : ℕ) → q ≢ ino → slice_index new q ≡ slice_index old q
 
+-- an overlay with room for so many more blocks
+abbrev pub with_room : Overlaid → ℕ → Overlaid
+with_room o room = record o { overlay = record o.overlay { room = room } }
+
 -- an overlay over contents of an image, and what it becomes, with the same slots
 pub record IsChange (g : Layout) (image : Image) (c : Contents) (old new : Overlaid) : Type 0 where
   pub has : HasContents g image c
