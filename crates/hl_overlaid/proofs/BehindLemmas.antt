@@ -90,7 +90,7 @@ noted_before t rs plan ds notes of = same_tables (fold changed (blocks_placed t 
     (unit_laid-used t (record { closes = true; records = rs; contents = []; changes = map freed_record ds ++ notes }) plan ∙ sym (unit_laid-used (fold changed t notes) (record { closes = true; records = rs; contents = []; changes = map freed_record ds }) plan ∙ notes-used t notes))
     (unit_laid-slots t (record { closes = true; records = rs; contents = []; changes = map freed_record ds ++ notes }) plan ∙ changes-slots t ds notes
     ∙ sym (unit_laid-slots (fold changed t notes) (record { closes = true; records = rs; contents = []; changes = map freed_record ds }) plan
-      ∙ ap (λ cs. (fold changed (fold changed t notes) cs).slots) (sym (append-nil (map freed_record ds))) ∙ changes-slots (fold changed t notes) ds []))
+    ∙ ap (λ cs. (fold changed (fold changed t notes) cs).slots) (sym (append-nil (map freed_record ds))) ∙ changes-slots (fold changed t notes) ds []))
   where
     inodes : (fold changed (blocks_placed t rs plan) (map freed_record ds ++ notes)).inodes ≡ (fold changed (blocks_placed (fold changed t notes) rs plan) (map freed_record ds)).inodes
     inodes =

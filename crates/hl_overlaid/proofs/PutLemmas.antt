@@ -132,8 +132,8 @@ module _ (g : Layout) (image : Image) (c : Contents) (old new : Overlaid) (ino i
             ext_get_or blocks.Hole (blocks.listed (blocks_of n.content.size) (λ j. block_now (get c.nodes ino) new.overlay.blocks j (where_is e.pointers j))) (slice_set n.content.blocks i put)
             (count ∙ sym n_count ∙ sym (length-set n.content.blocks i put))
             (λ k lt. (
-              let low : k < blocks_of n.content.size = subst (λ x. k < x) count lt in
-              get_or-map-range_with_len (λ j. block_now (get c.nodes ino) new.overlay.blocks j (where_is e.pointers j)) 0 (blocks_of n.content.size) k k blocks.Hole low (omega arith) ∙ at_row k low))
+            let low : k < blocks_of n.content.size = subst (λ x. k < x) count lt in
+            get_or-map-range_with_len (λ j. block_now (get c.nodes ino) new.overlay.blocks j (where_is e.pointers j)) 0 (blocks_of n.content.size) k k blocks.Hole low (omega arith) ∙ at_row k low))
           where
             few : (k : ℕ) → k < blocks_of n.content.size → k < 1036
             few k low = (let most : blocks_of_shape (Some (shape_of n)) ≤ 1036 = subst (λ x. blocks_of_shape x ≤ 1036) shape_is (blocks_most is.block.draft (is.change.before.table.drafts (slice_index old.overlay.drafts.places ino) is.block.draft is.block.is)) in omega arith)

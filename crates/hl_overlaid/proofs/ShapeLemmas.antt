@@ -73,11 +73,11 @@ module _ (g : Layout) (image : Image) (c : Contents) (old new : Overlaid) (ino :
       let a = length-map-range_with_len (λ j. block_now (get c.nodes ino) new.overlay.blocks j (where_is is.can.draft.pointers j)) 0 (blocks_of s.size) in
       let b = length-map-range_with_len (old_block (get (nodes_now old c.nodes) ino)) 0 (blocks_of s.size) in
       ext_get_or blocks.Hole (listed (blocks_of s.size) (λ j. block_now (get c.nodes ino) new.overlay.blocks j (where_is is.can.draft.pointers j))) (listed (blocks_of s.size) (old_block (get (nodes_now old c.nodes) ino))) (a ∙ sym b) (λ k lt. (
-        let low : k < blocks_of s.size = subst (λ n. k < n) a lt in
-        get_or-map-range_with_len (λ j. block_now (get c.nodes ino) new.overlay.blocks j (where_is is.can.draft.pointers j)) 0 (blocks_of s.size) k k blocks.Hole low (omega arith)
-        ∙ ap (λ bs. block_now (get c.nodes ino) bs k (where_is is.can.draft.pointers k)) is.blocks
-        ∙ now_block g image c old is.change.has is.change.before is.change.over ino is.number is.can.draft is.can.is k (few k low)
-        ∙ sym (get_or-map-range_with_len (old_block (get (nodes_now old c.nodes) ino)) 0 (blocks_of s.size) k k blocks.Hole low (omega arith))))
+      let low : k < blocks_of s.size = subst (λ n. k < n) a lt in
+      get_or-map-range_with_len (λ j. block_now (get c.nodes ino) new.overlay.blocks j (where_is is.can.draft.pointers j)) 0 (blocks_of s.size) k k blocks.Hole low (omega arith)
+      ∙ ap (λ bs. block_now (get c.nodes ino) bs k (where_is is.can.draft.pointers k)) is.blocks
+      ∙ now_block g image c old is.change.has is.change.before is.change.over ino is.number is.can.draft is.can.is k (few k low)
+      ∙ sym (get_or-map-range_with_len (old_block (get (nodes_now old c.nodes) ino)) 0 (blocks_of s.size) k k blocks.Hole low (omega arith))))
     where
       few : (k : ℕ) → k < blocks_of s.size → k < 1036
       few k low = (let most : blocks_of_shape (Some s) ≤ 1036 = subst (λ x. blocks_of_shape x ≤ 1036) s_is (blocks_most (with_shape is.can.draft shape) is_draft) in omega arith)

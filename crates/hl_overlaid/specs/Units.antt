@@ -1,5 +1,5 @@
 -- The unit of what was changed.
-use Rattle.std.specs.Prelude.{◌≡◌, ℕ, ◌≤◌, true, All, List, [], ◌++◌, length, map}
+use Rattle.std.specs.Prelude.{◌≡◌, ◌≢◌, ℕ, ◌≤◌, true, All, List, ◌++◌, length, map, slice_get, Some}
 use Rattle.std.specs.List.{fold}
 use Rattle.hl_media.specs.History.{MachineState}
 use Rattle.hl_addr.specs.Layout.{Layout}
@@ -25,6 +25,10 @@ unit_changes v notes = freed_of v.drafts.items ++ notes
 -- what a unit of these blocks and changes brings
 abbrev pub brought_by : List (BlockRecord × Block) → List TableRecord → Brought
 brought_by blocks changes = record { closes = true; records = map (λ b. b.0) blocks; contents = map (λ b. b.1.bytes) blocks; changes = changes }
+
+-- none of the blocks is the own one of this inode
+abbrev pub BringsNoInode : List (BlockRecord × Block) → ℕ → Type 0
+BringsNoInode blocks ino = (n : ℕ) (b : BlockRecord × Block) → slice_get blocks n ≡ Some b → b.0.index ≡ 4294967295 → b.0.ino ≢ ino
 
 -- what is noted is said of a slot or a volume, not of an inode
 abbrev pub IsOfSlots : TableRecord → Type 0

@@ -4,5 +4,7 @@
 //! These are definitions, and the modules of laws state what holds of them.
 #![tactic(auto)]
 
+pub mod change_laws;
+pub mod draft_laws;
 pub mod now_laws;
 pub mod unit_laws;

@@ -1,0 +1,36 @@
+//! What a draft says of the node that its number has now. Nothing here does anything: each contract
+//! is a theorem.
+
+ghost use Rattle.std.specs.Prelude.{◌≡◌, ℕ, ◌<◌, Some, option_map};
+ghost use Rattle.std.specs.FinMap.{get};
+ghost use Rattle.hl_media.specs.History.{Image};
+ghost use Rattle.hl_addr.specs.Layout.{Layout};
+ghost use Rattle.hl_image.specs.Places.{log_end};
+ghost use Rattle.hl_nodes.specs.Contents.{Contents, HasContents};
+ghost use Rattle.hl_overlay.specs.declared.draft.NodeDraft.{NodeDraft};
+ghost use Rattle.hl_overlay.specs.DraftTables.{draft_of};
+ghost use Rattle.hl_overlay.specs.Overlays.{Holding, holding};
+ghost use Rattle.hl_overlaid.specs.NodesNow.{IsOverlaid, Overlaid, nodes_now, old_block};
+ghost use Rattle.hl_overlaid.specs.Over.{IsOver};
+ghost use Rattle.hl_overlaid.specs.Changes.{block_held, shape_of};
+
+/// A draft has the shape of the node that its number has now, and each of its blocks is that of the
+/// node.
+pub fn a_draft_is_of_the_node_now()
+    ensures shape { (g : Layout) (image : Image) (c : Contents) (o : Overlaid)
+        → HasContents g image c → IsOverlaid g o → IsOver g o image c
+        → (ino : ℕ) → ino < g.inodes → (d : NodeDraft) → draft_of o.overlay.drafts ino ≡ Some d
+        → d.shape ≡ option_map shape_of (get (nodes_now o c.nodes) ino) }
+    ensures blocks { (g : Layout) (image : Image) (c : Contents) (o : Overlaid)
+        → HasContents g image c → IsOverlaid g o → IsOver g o image c
+        → (ino : ℕ) → ino < g.inodes → (d : NodeDraft) → draft_of o.overlay.drafts ino ≡ Some d
+        → (i : ℕ) → i < 1036 → (h : Holding) → holding o.overlay ino i ≡ Some h
+        → old_block (get (nodes_now o c.nodes) ino) i ≡ block_held (old_block (get c.nodes ino) i) h }
+{}
+
+/// An overlay over contents of an image is over them on each image with the same log.
+pub fn an_overlay_is_over_each_image_with_the_log()
+    ensures { (g : Layout) (a b : Image) (c : Contents) (o : Overlaid)
+        → HasContents g a c → ((k : ℕ) → k < log_end g → b k ≡ a k) → IsOver g o a c
+        → IsOver g o b c }
+{}
