@@ -103,7 +103,7 @@ pub record Follows (d e : NodeDraft) : Type 0 where
 pub of_following : (g : Layout) (image : Image) (c : Contents) (d e : NodeDraft) → Follows d e → IsDraftOf g image c d → IsDraftOf g image c e
 of_following g image c d e follows of = record {
   own = follows.own ∙ of.own ∙ ap (slice_index c.tables.inodes) (sym follows.ino);
-  kept = λ i addr here. subst (λ n. HasAddress g image c.tables n (Content i) addr) (sym follows.ino) (of.kept i addr (follows.kept i addr here));
+  kept = λ i addr small here. subst (λ n. HasAddress g image c.tables n (Content i) addr) (sym follows.ino) (of.kept i addr small (follows.kept i addr here));
   kind = λ i addr small here shape is. (
       let was = follows.kind i addr small here shape is in
       subst (λ n. IsOfKind (get c.nodes n) shape.kind) (sym follows.ino) (λ node at. of.kind i addr small (follows.kept i addr here) was.0 was.1 node at ∙ was.2));

@@ -258,8 +258,8 @@ module _ (g : Layout) (p : Position) (clean : List ℕ) (o : Overlaid) (notes : 
     live_single : d.single ≢ 4294967295 → IsNodeBlock g first.content c.tables ino Pointers d.single
     live_single some_is = subst (λ n. IsNodeBlock g first.content c.tables n Pointers d.single) number (of.single some_is)
 
-    kept_at : (i addr : ℕ) → where_is d.pointers i ≡ place.Kept addr → HasAddress g first.content c.tables ino (Content i) addr
-    kept_at i addr here = subst (λ n. HasAddress g first.content c.tables n (Content i) addr) number (of.kept i addr here)
+    kept_at : (i addr : ℕ) → i < 1036 → where_is d.pointers i ≡ place.Kept addr → HasAddress g first.content c.tables ino (Content i) addr
+    kept_at i addr small here = subst (λ n. HasAddress g first.content c.tables n (Content i) addr) number (of.kept i addr small here)
 
     single_by : Lies → BringsPointers g first.content c u plan ino value.single
     single_by (Nowhere near single_is) = inl single_is
@@ -269,7 +269,7 @@ module _ (g : Layout) (p : Position) (clean : List ℕ) (o : Overlaid) (notes : 
     -- a pointer that isn't a hole is somewhere
     resolved_some : (q : Pointer) (i : ℕ) → where_is d.pointers i ≡ q → q ≢ place.Hole → resolved plan q ≢ 4294967295
     resolved_some place.Hole i here ne = absurd (ne refl)
-    resolved_some (place.Kept addr) i here ne = (kept_at i addr here).points.1
+    resolved_some (place.Kept addr) i here ne = subst IsAddressed here (is_draft.addressed i)
     resolved_some (place.Moved addr serial position) i here ne = subst IsAddressed here (is_draft.addressed i)
     resolved_some (place.New n) i here ne = (let o = is.whole.named.named ino i n places (ap (option_map (λ (x : NodeDraft). where_is x.pointers i)) at ∙ ap Some here) in some (slice_index plan n) (in_log n (record_there n o.0 (data_at n o.0 o.1))))
 
@@ -338,7 +338,7 @@ module _ (g : Layout) (p : Position) (clean : List ℕ) (o : Overlaid) (notes : 
     old_brings i addr small here = by_node (get c.nodes ino) refl (is.rests.has.nodes.entries ino low high)
       where
         had : HasAddress g first.content c.tables ino (Content i) addr
-        had = kept_at i addr here
+        had = kept_at i addr (let most = few in omega arith) here
 
         by_block : (node : FlatNode) → get c.nodes ino ≡ Some node → (kind : Kind) → node.kind ≡ kind → (b : blocks.Block) → file_block node.content i ≡ b → StandsFor g c.tables.slots first.content kind addr b → BringsBlock g first.content c u plan ino value.kind i addr b
         by_block node node_is kind of_kind blocks.Hole same stands = stands

@@ -36,7 +36,7 @@ IsOfKind node kind = ForSome node (λ n. n.kind ≡ kind)
 -- the address that the node has for it, and a pointer block that is kept names the blocks from 12 on as they are.
 pub record IsDraftOf (g : Layout) (image : Image) (c : Contents) (d : NodeDraft) : Type 0 where
   pub own : d.own ≡ slice_index c.tables.inodes d.ino
-  pub kept : (i addr : ℕ) → where_is d.pointers i ≡ Kept addr → HasAddress g image c.tables d.ino (Content i) addr
+  pub kept : (i addr : ℕ) → i < 1036 → where_is d.pointers i ≡ Kept addr → HasAddress g image c.tables d.ino (Content i) addr
   pub kind : (i addr : ℕ) → i < 1036 → where_is d.pointers i ≡ Kept addr → ForSome d.shape (λ shape. IsOfKind (get c.nodes d.ino) shape.kind)
   pub single : d.single ≢ 4294967295 → IsNodeBlock g image c.tables d.ino Pointers d.single
   pub names : d.single ≢ 4294967295 → (i : ℕ) → 12 ≤ i → i < 1036 → where_is d.pointers i ≡ pointer_to (pointer_in image d.single (i - 12))

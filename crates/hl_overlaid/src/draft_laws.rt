@@ -6,6 +6,7 @@ ghost use Rattle.std.specs.FinMap.{get};
 ghost use Rattle.hl_media.specs.History.{Image};
 ghost use Rattle.hl_addr.specs.Layout.{Layout};
 ghost use Rattle.hl_image.specs.Places.{log_end};
+ghost use Rattle.hl_nodes.specs.Live.{IsLive};
 ghost use Rattle.hl_nodes.specs.Contents.{Contents, HasContents};
 ghost use Rattle.hl_overlay.specs.declared.draft.NodeDraft.{NodeDraft};
 ghost use Rattle.hl_overlay.specs.DraftTables.{draft_of};
@@ -28,9 +29,17 @@ pub fn a_draft_is_of_the_node_now()
         → old_block (get (nodes_now o c.nodes) ino) i ≡ block_held (old_block (get c.nodes ino) i) h }
 {}
 
-/// An overlay over contents of an image is over them on each image with the same log.
-pub fn an_overlay_is_over_each_image_with_the_log()
-    ensures { (g : Layout) (a b : Image) (c : Contents) (o : Overlaid)
+/// An overlay over contents of an image is over them on each image with the same live blocks, so on
+/// each with the same log; and it is over contents with the same nodes, inodes and slots.
+pub fn an_overlay_is_over_what_its_contents_reach()
+    ensures live { (g : Layout) (a b : Image) (c : Contents) (o : Overlaid)
+        → HasContents g a c
+        → ((address : ℕ) → IsLive g a c.rec c.tables address → b address ≡ a address)
+        → IsOver g o a c → IsOver g o b c }
+    ensures log { (g : Layout) (a b : Image) (c : Contents) (o : Overlaid)
         → HasContents g a c → ((k : ℕ) → k < log_end g → b k ≡ a k) → IsOver g o a c
         → IsOver g o b c }
+    ensures contents { (g : Layout) (image : Image) (c e : Contents) (o : Overlaid)
+        → e.nodes ≡ c.nodes → e.tables.inodes ≡ c.tables.inodes → e.tables.slots ≡ c.tables.slots
+        → IsOver g o image c → IsOver g o image e }
 {}
