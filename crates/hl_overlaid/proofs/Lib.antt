@@ -10,3 +10,4 @@ pub mod ShapeLemmas
 pub mod KeepLemmas
 pub mod ImageLemmas
 pub mod BehindLemmas
+pub mod ReadLemmas

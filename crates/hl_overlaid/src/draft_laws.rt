@@ -12,7 +12,8 @@ ghost use Rattle.hl_overlay.specs.declared.draft.NodeDraft.{NodeDraft};
 ghost use Rattle.hl_overlay.specs.DraftTables.{draft_of};
 ghost use Rattle.hl_overlay.specs.Overlays.{Holding, holding};
 ghost use Rattle.hl_overlaid.specs.NodesNow.{IsOverlaid, Overlaid, nodes_now, old_block};
-ghost use Rattle.hl_overlaid.specs.Over.{IsOver};
+ghost use Rattle.hl_overlaid.specs.Over.{IsDraftOf, IsOver};
+ghost use Rattle.hl_overlaid.specs.Reading.{ReadsNode, ReadsUnused};
 ghost use Rattle.hl_overlaid.specs.Changes.{block_held, shape_of};
 
 /// A draft has the shape of the node that its number has now, and each of its blocks is that of the
@@ -42,4 +43,13 @@ pub fn an_overlay_is_over_what_its_contents_reach()
     ensures contents { (g : Layout) (image : Image) (c e : Contents) (o : Overlaid)
         → e.nodes ≡ c.nodes → e.tables.inodes ≡ c.tables.inodes → e.tables.slots ≡ c.tables.slots
         → IsOver g o image c → IsOver g o image e }
+{}
+
+/// A draft as it was read of contents is of what they have: that of a number that isn't in use, and
+/// that of an inode, with the pointers of its pointer block if it has one.
+pub fn a_draft_as_it_was_read_is_of_the_contents()
+    ensures unused { (g : Layout) (image : Image) (c : Contents) → HasContents g image c
+        → (d : NodeDraft) → ReadsUnused g c d → IsDraftOf g image c d }
+    ensures node { (g : Layout) (image : Image) (c : Contents) → HasContents g image c
+        → (d : NodeDraft) → ReadsNode g image c d → IsDraftOf g image c d }
 {}
