@@ -11,3 +11,4 @@ pub mod KeepLemmas
 pub mod ImageLemmas
 pub mod BehindLemmas
 pub mod ReadLemmas
+pub mod UseLemmas

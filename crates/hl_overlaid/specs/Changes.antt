@@ -1,13 +1,15 @@
 -- What is changed of one node.
-use Rattle.std.specs.Prelude.{◌≡◌, ◌≢◌, ◌⊎◌, ℕ, ◌<◌, false, List, slice_index, slice_set, Option, Some, None}
+use Rattle.std.specs.Prelude.{◌≡◌, ◌≢◌, ◌⊎◌, ℕ, ◌<◌, true, false, List, slice_index, slice_set, Option, Some, None}
 use Rattle.std.specs.Option.{ForSome}
+use Rattle.std.specs.FinMap.{get}
 use Rattle.hl_media.specs.History.{Image}
 use Rattle.hl_addr.specs.Layout.{Layout}
 use Rattle.hl_tseg.specs.SlotTable.{SlotTable, slot_at}
 use Rattle.hl_tseg.specs.Slots.{HoldsSerial}
 use Rattle.hl_placed.specs.Blocks.{Away, Block, Here, Hole, blocks_of, listed}
-use Rattle.hl_paths.specs.Nodes.{FlatNode}
+use Rattle.hl_paths.specs.Nodes.{FlatNode, Nodes}
 use Rattle.hl_nodes.specs.Contents.{Contents, HasContents}
+use Rattle.hl_nodes.specs.Fates.{KeepsSlots}
 use Rattle.hl_overlay.specs.declared.pointers.Pointer.{Pointer}
 use Rattle.hl_overlay.specs.declared.pointers.Pointer.TheVariants as places
 use Rattle.hl_overlay.specs.declared.draft.NodeDraft.{NodeDraft}
@@ -17,7 +19,7 @@ use Rattle.hl_overlay.specs.DraftTables.{CanShape, HasBlock, Redrafts, Trims, dr
 use Rattle.hl_overlay.specs.Overlays.{Holding, KeepsDrafts, PutsBlock, Shapes}
 use Rattle.hl_overlay.specs.Overlays.Holding.{Fresh, GoesAway, Remains, Zeros}
 use Rattle.hl_overlay.specs.Making.{used_of}
-use Rattle.hl_overlaid.specs.NodesNow.{IsOverlaid, Overlaid, old_block}
+use Rattle.hl_overlaid.specs.NodesNow.{IsOverlaid, Overlaid, nodes_now, old_block}
 use Rattle.hl_overlaid.specs.Over.{GoesInto, IsDraftOf, IsOver}
 
 -- what stands in a block, where the last unit has this one there
@@ -64,6 +66,28 @@ KeepsOtherUses old new ino = (q : ℕ) → q ≢ ino → slice_index new q ≡ s
 -- an overlay with room for so many more blocks
 abbrev pub with_room : Overlaid → ℕ → Overlaid
 with_room o room = record o { overlay = record o.overlay { room = room } }
+
+-- an overlay with other last uses, or with other slots
+abbrev pub with_uses : Overlaid → List ℕ → Overlaid
+with_uses o uses = record o { uses = uses }
+
+abbrev pub with_slots : Overlaid → SlotTable → Overlaid
+with_slots o slots = record o { slots = slots }
+
+-- a node used at a moment
+abbrev pub used_at : ℕ → FlatNode → FlatNode
+used_at used n = record { kind = n.kind; content = record { size = n.content.size; used = used_of n.kind used; blocks = n.content.blocks } }
+
+-- a number has a draft that is changed, or it has none
+abbrev pub IsChangedDraft : Overlaid → ℕ → Type 0
+IsChangedDraft o ino = (d : NodeDraft) × (draft_of o.overlay.drafts ino ≡ Some d) × (d.changed ≡ true)
+
+abbrev pub HasNoChangedDraft : Overlaid → ℕ → Type 0
+HasNoChangedDraft o ino = (d : NodeDraft) → draft_of o.overlay.drafts ino ≡ Some d → d.changed ≡ false
+
+-- other slots hold each segment of which the nodes now have a block, where these held it
+abbrev pub KeepsAllSlots : Overlaid → Nodes → SlotTable → Type 0
+KeepsAllSlots o last slots = (ino : ℕ) (node : FlatNode) → get (nodes_now o last) ino ≡ Some node → KeepsSlots o.slots slots node
 
 -- an overlay over contents of an image, and what it becomes, with the same slots
 pub record IsChange (g : Layout) (image : Image) (c : Contents) (old new : Overlaid) : Type 0 where
