@@ -12,3 +12,4 @@ pub mod ImageLemmas
 pub mod BehindLemmas
 pub mod ReadLemmas
 pub mod UseLemmas
+pub mod KeptBlocks

@@ -1,23 +1,27 @@
 //! What a draft says of the node that its number has now. Nothing here does anything: each contract
 //! is a theorem.
 
-ghost use Rattle.std.specs.Prelude.{◌≡◌, ℕ, ◌<◌, Some, option_map};
+ghost use Rattle.std.specs.Prelude.{◌≡◌, ◌≢◌, ℕ, ◌<◌, Some, option_map};
 ghost use Rattle.std.specs.FinMap.{get};
 ghost use Rattle.hl_media.specs.History.{Image};
 ghost use Rattle.hl_addr.specs.Layout.{Layout};
 ghost use Rattle.hl_image.specs.Places.{log_end};
+ghost use Rattle.hl_placed.specs.Blocks.{file_block};
+ghost use Rattle.hl_paths.specs.Nodes.{FlatNode};
+ghost use Rattle.hl_nodes.specs.Blocks.{StandsFor};
 ghost use Rattle.hl_nodes.specs.Live.{IsLive};
 ghost use Rattle.hl_nodes.specs.Contents.{Contents, HasContents};
 ghost use Rattle.hl_overlay.specs.declared.draft.NodeDraft.{NodeDraft};
 ghost use Rattle.hl_overlay.specs.DraftTables.{draft_of};
 ghost use Rattle.hl_overlay.specs.Overlays.{Holding, holding};
+ghost use Rattle.hl_overlay.specs.Overlays.Holding.{Remains};
 ghost use Rattle.hl_overlaid.specs.NodesNow.{IsOverlaid, Overlaid, nodes_now, old_block};
 ghost use Rattle.hl_overlaid.specs.Over.{IsDraftOf, IsOver};
 ghost use Rattle.hl_overlaid.specs.Reading.{ReadsNode, ReadsUnused};
 ghost use Rattle.hl_overlaid.specs.Changes.{block_held, shape_of};
 
 /// A draft has the shape of the node that its number has now, and each of its blocks is that of the
-/// node.
+/// node. An address that it keeps stands for the block, by the image and the slots now.
 pub fn a_draft_is_of_the_node_now()
     ensures shape { (g : Layout) (image : Image) (c : Contents) (o : Overlaid)
         → HasContents g image c → IsOverlaid g o → IsOver g o image c
@@ -28,6 +32,12 @@ pub fn a_draft_is_of_the_node_now()
         → (ino : ℕ) → ino < g.inodes → (d : NodeDraft) → draft_of o.overlay.drafts ino ≡ Some d
         → (i : ℕ) → i < 1036 → (h : Holding) → holding o.overlay ino i ≡ Some h
         → old_block (get (nodes_now o c.nodes) ino) i ≡ block_held (old_block (get c.nodes ino) i) h }
+    ensures kept { (g : Layout) (image : Image) (c : Contents) (o : Overlaid)
+        → HasContents g image c → IsOverlaid g o → IsOver g o image c
+        → (ino : ℕ) → ino < g.inodes → (d : NodeDraft) → draft_of o.overlay.drafts ino ≡ Some d
+        → (i addr : ℕ) → i < 1036 → holding o.overlay ino i ≡ Some (Remains addr)
+        → (n : FlatNode) → get (nodes_now o c.nodes) ino ≡ Some n
+        → StandsFor g o.slots image n.kind addr (file_block n.content i) × (addr ≢ 4294967295) }
 {}
 
 /// An overlay over contents of an image is over them on each image with the same live blocks, so on
