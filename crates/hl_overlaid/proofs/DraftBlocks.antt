@@ -23,7 +23,7 @@ use Rattle.hl_nodes.specs.Nodes.{IsMapEntry}
 use Rattle.hl_nodes.specs.Contents.{Contents, HasContents}
 use Rattle.hl_overlaid.specs.NodesNow.{IsOverlaid, Overlaid, block_now, draft_node, nodes_now, old_block, shaped_node}
 use Rattle.hl_overlaid.specs.Over.{IsAsRead, IsDraftOf, IsOver}
-use Rattle.hl_overlaid.specs.Changes.{block_held, shape_of}
+use Rattle.hl_overlaid.specs.Changes.{block_held, node_shape}
 use Rattle.hl_overlaid.proofs.NowLemmas.{now_changed, now_unchanged, one}
 
 -- what a pointer stands for is what is held there
@@ -62,20 +62,20 @@ module _ (g : Layout) (image : Image) (c : Contents) (o : Overlaid) (has : HasCo
   now_new changed = now_changed o whole.table c.nodes ino d places at changed ∙ ap (λ n. option_map (shaped_node (get c.nodes n) o.overlay.blocks (slice_index o.uses n) d.pointers) d.shape) number
 
   -- the shape of the draft is that of the node now
-  pub now_shape : d.shape ≡ option_map shape_of (get (nodes_now o c.nodes) ino)
+  pub now_shape : d.shape ≡ option_map node_shape (get (nodes_now o c.nodes) ino)
   now_shape = by d.changed refl
     where
-      shaped : (s : Option Shape) → s ≡ option_map shape_of (option_map (shaped_node (get c.nodes ino) o.overlay.blocks (slice_index o.uses ino) d.pointers) s)
+      shaped : (s : Option Shape) → s ≡ option_map node_shape (option_map (shaped_node (get c.nodes ino) o.overlay.blocks (slice_index o.uses ino) d.pointers) s)
       shaped None = refl
       shaped (Some s) = refl
 
-      read : (x : Option FlatNode) → IsAsRead x d → d.shape ≡ option_map shape_of x
+      read : (x : Option FlatNode) → IsAsRead x d → d.shape ≡ option_map node_shape x
       read None is = is
       read (Some node) is = is.0
 
-      by : (b : Bool) → d.changed ≡ b → d.shape ≡ option_map shape_of (get (nodes_now o c.nodes) ino)
-      by true e = shaped d.shape ∙ ap (option_map shape_of) (sym (now_new e))
-      by false e = read (get c.nodes ino) (as_read e) ∙ ap (option_map shape_of) (sym (now_unchanged o whole.table c.nodes ino d places at e))
+      by : (b : Bool) → d.changed ≡ b → d.shape ≡ option_map node_shape (get (nodes_now o c.nodes) ino)
+      by true e = shaped d.shape ∙ ap (option_map node_shape) (sym (now_new e))
+      by false e = read (get c.nodes ino) (as_read e) ∙ ap (option_map node_shape) (sym (now_unchanged o whole.table c.nodes ino d places at e))
 
   abbrev block_at : ℕ → Block
   block_at j = block_now (get c.nodes ino) o.overlay.blocks j (where_is d.pointers j)

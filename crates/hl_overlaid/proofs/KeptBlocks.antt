@@ -26,7 +26,7 @@ use Rattle.hl_nodes.proofs.Frame.{limits_of, one_inode}
 use Rattle.hl_nodes.proofs.PointerLemmas.{in_log-some}
 use Rattle.hl_overlaid.specs.NodesNow.{IsOverlaid, Overlaid, block_now, nodes_now, old_block}
 use Rattle.hl_overlaid.specs.Over.{IsDraftOf, IsOver}
-use Rattle.hl_overlaid.specs.Changes.{shape_of}
+use Rattle.hl_overlaid.specs.Changes.{node_shape}
 use Rattle.hl_overlaid.proofs.NowLemmas.{one}
 use Rattle.hl_overlaid.proofs.DraftBlocks.{now_block, now_shape}
 use Rattle.hl_overlaid.proofs.Following.{held_kept}
@@ -46,7 +46,7 @@ module _ (g : Layout) (image : Image) (c : Contents) (o : Overlaid) (has : HasCo
   same_block = sym (ap (block_now (get c.nodes ino) o.overlay.blocks i) here) ∙ now_block g image c o has whole over ino high d at i small ∙ ap (λ x. old_block x i) n_is
 
   same_kind : (node : FlatNode) → get c.nodes ino ≡ Some node → node.kind ≡ n.kind
-  same_kind node is = of.kind i addr small here (shape_of n) (now_shape g image c o has whole over ino high d at ∙ ap (option_map shape_of) n_is) node (ap (get c.nodes) number ∙ is)
+  same_kind node is = of.kind i addr small here (node_shape n) (now_shape g image c o has whole over ino high d at ∙ ap (option_map node_shape) n_is) node (ap (get c.nodes) number ∙ is)
 
   stands_by : (kind : Kind) (b : Block) → file_block n.content i ≡ b → StandsFor g c.tables.slots image kind addr b → StandsFor g o.slots image kind addr b
   stands_by kind blocks.Hole same is = is

@@ -13,3 +13,4 @@ pub mod BehindLemmas
 pub mod ReadLemmas
 pub mod UseLemmas
 pub mod KeptBlocks
+pub mod WorkedExamples

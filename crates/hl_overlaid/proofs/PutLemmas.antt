@@ -28,7 +28,7 @@ use Rattle.hl_nodes.specs.Contents.{Contents}
 use Rattle.hl_nodes.specs.Fates.{KeepsSlots}
 use Rattle.hl_overlaid.specs.NodesNow.{Overlaid, block_now, draft_node, nodes_now, old_block, shaped_node, with_node}
 use Rattle.hl_overlaid.specs.Over.{GoesInto, IsDraftOf, IsOver}
-use Rattle.hl_overlaid.specs.Changes.{CanPut, PutsNow, block_held, shape_of, with_block}
+use Rattle.hl_overlaid.specs.Changes.{CanPut, PutsNow, block_held, node_shape, with_block}
 use Rattle.hl_overlaid.proofs.NowLemmas.{none_some, now_changed, one, same_nodes, with_node-other, with_node-same}
 use Rattle.hl_overlaid.proofs.DraftBlocks.{block_now-held, now_block, now_count, now_shape}
 use Rattle.hl_overlaid.proofs.Following.{Follows, SaysSame, held_hole, held_kept, held_moved, held_to, of_following, same_node, same_now, same_past, same_undrafted}
@@ -98,15 +98,15 @@ module _ (g : Layout) (image : Image) (c : Contents) (old new : Overlaid) (ino i
 
   -- the node of the number was there
   pub put_there : (n : FlatNode) × (get (nodes_now old c.nodes) ino ≡ Some n)
-  put_there = (let m = mapped shape_of (get (nodes_now old c.nodes) ino) (shaped is.block.draft.shape refl).0 (sym (now_shape g image c old is.change.has is.change.before is.change.over ino is.number is.block.draft is.block.is) ∙ (shaped is.block.draft.shape refl).1) in (m.0, m.1))
+  put_there = (let m = mapped node_shape (get (nodes_now old c.nodes) ino) (shaped is.block.draft.shape refl).0 (sym (now_shape g image c old is.change.has is.change.before is.change.over ino is.number is.block.draft is.block.is) ∙ (shaped is.block.draft.shape refl).1) in (m.0, m.1))
     where
       shaped : (s : Option Shape) → is.block.draft.shape ≡ s → (t : Shape) × (is.block.draft.shape ≡ Some t)
       shaped None e = absurd (let lt : i < blocks_of_shape None = subst (λ x. i < blocks_of_shape x) e is.block.within in omega arith)
       shaped (Some s) e = (s, e)
 
   module _ (n : FlatNode) (n_is : get (nodes_now old c.nodes) ino ≡ Some n) where
-    shape_is : is.block.draft.shape ≡ Some (shape_of n)
-    shape_is = now_shape g image c old is.change.has is.change.before is.change.over ino is.number is.block.draft is.block.is ∙ ap (option_map shape_of) n_is
+    shape_is : is.block.draft.shape ≡ Some (node_shape n)
+    shape_is = now_shape g image c old is.change.has is.change.before is.change.over ino is.number is.block.draft is.block.is ∙ ap (option_map node_shape) n_is
 
     within : i < length n.content.blocks
     within = subst (λ k. i < k) (sym (now_count g image c old is.change.has is.change.before is.change.over ino is.number is.block.draft is.block.is n n_is)) (subst (λ x. i < blocks_of_shape x) shape_is is.block.within)
@@ -136,7 +136,7 @@ module _ (g : Layout) (image : Image) (c : Contents) (old new : Overlaid) (ino i
             get_or-map-range_with_len (λ j. block_now (get c.nodes ino) new.overlay.blocks j (where_is e.pointers j)) 0 (blocks_of n.content.size) k k blocks.Hole low (omega arith) ∙ at_row k low))
           where
             few : (k : ℕ) → k < blocks_of n.content.size → k < 1036
-            few k low = (let most : blocks_of_shape (Some (shape_of n)) ≤ 1036 = subst (λ x. blocks_of_shape x ≤ 1036) shape_is (blocks_most is.block.draft (is.change.before.table.drafts (slice_index old.overlay.drafts.places ino) is.block.draft is.block.is)) in omega arith)
+            few k low = (let most : blocks_of_shape (Some (node_shape n)) ≤ 1036 = subst (λ x. blocks_of_shape x ≤ 1036) shape_is (blocks_most is.block.draft (is.change.before.table.drafts (slice_index old.overlay.drafts.places ino) is.block.draft is.block.is)) in omega arith)
 
             at_row : (k : ℕ) → k < blocks_of n.content.size → block_now (get c.nodes ino) new.overlay.blocks k (where_is e.pointers k) ≡ file_block (record { size = 0; used = 0; blocks = slice_set n.content.blocks i put }) k
             at_row k low = elim (cases_eq k i) [

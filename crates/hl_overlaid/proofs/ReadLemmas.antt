@@ -169,10 +169,10 @@ module _ (g : Layout) (image : Image) (c : Contents) (has : HasContents g image 
   as_read = with_node_of (λ x. IsAsRead x d) (λ node is. (
     is_of.shape ∙ ap (λ k. Some (record { kind = k; size = v.size })) (sym is.kind_is) ∙ ap (λ n. Some (record { kind = node.kind; size = n })) (sym is.size_is),
     λ i lt here. (
-      let within : i < blocks_of v.size = subst (λ n. i < blocks_of n) is.size_is lt in
-      let small : i < 1036 = few i within in
-      let gone : pointer_of image v i ≡ 4294967295 = to_hole (pointer_of image v i) (sym (at_pointer i small within) ∙ here) in
-      nothing c.tables.slots v.kind (file_block node.content i) (subst (λ a. StandsFor g c.tables.slots image v.kind a (file_block node.content i)) gone (is.blocks i within))),
+        let within : i < blocks_of v.size = subst (λ n. i < blocks_of n) is.size_is lt in
+        let small : i < 1036 = few i within in
+        let gone : pointer_of image v i ≡ 4294967295 = to_hole (pointer_of image v i) (sym (at_pointer i small within) ∙ here) in
+        nothing c.tables.slots v.kind (file_block node.content i) (subst (λ a. StandsFor g c.tables.slots image v.kind a (file_block node.content i)) gone (is.blocks i within))),
   ))
     where
       few : (i : ℕ) → i < blocks_of v.size → i < 1036

@@ -22,7 +22,7 @@ use Rattle.hl_nodes.specs.Contents.{Contents}
 use Rattle.hl_nodes.specs.Fates.{KeepsSlots}
 use Rattle.hl_overlaid.specs.NodesNow.{IsOverlaid, Overlaid, block_now, draft_node, nodes_now, shaped_node, with_node}
 use Rattle.hl_overlaid.specs.Over.{GoesInto, IsOver}
-use Rattle.hl_overlaid.specs.Changes.{HasNoChangedDraft, IsChangedDraft, KeepsAllSlots, KeepsOtherUses, used_at, with_slots, with_uses}
+use Rattle.hl_overlaid.specs.Changes.{HasNoChangedDraft, IsChangedDraft, KeepsAllSlots, KeepsOtherUses, node_used, with_slot_table, with_uses}
 use Rattle.hl_overlaid.proofs.NowLemmas.{none_some, now_changed, now_unchanged, one, same_nodes}
 use Rattle.hl_overlaid.proofs.Following.{same_node, same_now, same_past, same_undrafted}
 use Rattle.hl_overlaid.proofs.PutLemmas.{mapped, with_one}
@@ -49,12 +49,12 @@ module _ (g : Layout) (o : Overlaid) (whole : IsOverlaid g o) (uses : List ℕ) 
   pub use_waits : HasNoChangedDraft o ino → nodes_now (with_uses o uses) last ≡ nodes_now o last
   use_waits none = same_nodes (nodes_now (with_uses o uses) last) (nodes_now o last) (λ q. stays q (λ d at changed same. true≢false (sym changed ∙ none d (ap (draft_of o.overlay.drafts) (sym same) ∙ at))))
 
-  used_own : ino < g.inodes → IsChangedDraft o ino → get (nodes_now (with_uses o uses) last) ino ≡ option_map (used_at (slice_index uses ino)) (get (nodes_now o last) ino)
+  used_own : ino < g.inodes → IsChangedDraft o ino → get (nodes_now (with_uses o uses) last) ino ≡ option_map (node_used (slice_index uses ino)) (get (nodes_now o last) ino)
   used_own high is =
       now_changed (with_uses o uses) whole.table last ino is.0 lt is.1 is.2
       ∙ ap (λ k. option_map (shaped_node (get last k) o.overlay.blocks (slice_index uses k) is.0.pointers) is.0.shape) number
       ∙ by is.0.shape
-      ∙ sym (ap (option_map (used_at (slice_index uses ino))) (now_changed o whole.table last ino is.0 lt is.1 is.2 ∙ ap (λ k. option_map (shaped_node (get last k) o.overlay.blocks (slice_index o.uses k) is.0.pointers) is.0.shape) number))
+      ∙ sym (ap (option_map (node_used (slice_index uses ino))) (now_changed o whole.table last ino is.0 lt is.1 is.2 ∙ ap (λ k. option_map (shaped_node (get last k) o.overlay.blocks (slice_index o.uses k) is.0.pointers) is.0.shape) number))
     where
       lt : ino < length o.overlay.drafts.places
       lt = subst (λ n. ino < n) (sym whole.numbers) high
@@ -62,7 +62,7 @@ module _ (g : Layout) (o : Overlaid) (whole : IsOverlaid g o) (uses : List ℕ) 
       number : is.0.ino ≡ ino
       number = whole.table.own ino is.0 lt is.1
 
-      by : (s : Option Shape) → option_map (shaped_node (get last ino) o.overlay.blocks (slice_index uses ino) is.0.pointers) s ≡ option_map (used_at (slice_index uses ino)) (option_map (shaped_node (get last ino) o.overlay.blocks (slice_index o.uses ino) is.0.pointers) s)
+      by : (s : Option Shape) → option_map (shaped_node (get last ino) o.overlay.blocks (slice_index uses ino) is.0.pointers) s ≡ option_map (node_used (slice_index uses ino)) (option_map (shaped_node (get last ino) o.overlay.blocks (slice_index o.uses ino) is.0.pointers) s)
       by None = refl
       by (Some s) = refl
 
@@ -71,8 +71,8 @@ module _ (g : Layout) (o : Overlaid) (whole : IsOverlaid g o) (uses : List ℕ) 
 
 -- WITH A CHANGED DRAFT the node of the number is used then
 pub use_shows : (g : Layout) (o : Overlaid) → IsOverlaid g o → (uses : List ℕ) (ino : ℕ) → KeepsOtherUses o.uses uses ino → (c : Contents) → ino < g.inodes → IsChangedDraft o ino
-    → nodes_now (with_uses o uses) c.nodes ≡ with_node (nodes_now o c.nodes) ino (option_map (used_at (slice_index uses ino)) (get (nodes_now o c.nodes) ino))
-use_shows g o whole uses ino others c high is = with_one o (with_uses o uses) c ino (option_map (used_at (slice_index uses ino)) (get (nodes_now o c.nodes) ino)) (used_own g o whole uses ino others c.nodes high is) (others_stay g o whole uses ino others c.nodes)
+    → nodes_now (with_uses o uses) c.nodes ≡ with_node (nodes_now o c.nodes) ino (option_map (node_used (slice_index uses ino)) (get (nodes_now o c.nodes) ino))
+use_shows g o whole uses ino others c high is = with_one o (with_uses o uses) c ino (option_map (node_used (slice_index uses ino)) (get (nodes_now o c.nodes) ino)) (used_own g o whole uses ino others c.nodes high is) (others_stay g o whole uses ino others c.nodes)
 
 -- and the overlay is over the contents still
 pub use_over : (g : Layout) (image : Image) (c : Contents) (o : Overlaid) → IsOverlaid g o → (uses : List ℕ) (ino : ℕ) → KeepsOtherUses o.uses uses ino → ino < g.inodes → IsOver g o image c → IsOver g (with_uses o uses) image c
@@ -90,7 +90,7 @@ use_over g image c o whole uses ino others high over = record {
 
     shows : IsChangedDraft o ino → (node : FlatNode) → get (nodes_now (with_uses o uses) c.nodes) ino ≡ Some node → KeepsSlots c.tables.slots o.slots node
     shows changed node is =
-        let m = mapped (used_at (slice_index uses ino)) (get (nodes_now o c.nodes) ino) node (sym (used_own g o whole uses ino others c.nodes high changed) ∙ is) in
+        let m = mapped (node_used (slice_index uses ino)) (get (nodes_now o c.nodes) ino) node (sym (used_own g o whole uses ino others c.nodes high changed) ∙ is) in
         subst (KeepsSlots c.tables.slots o.slots) m.2 (over.slots ino m.0 m.1)
 
     own : (x : Option NodeDraft) → draft_of o.overlay.drafts ino ≡ x → (node : FlatNode) → get (nodes_now (with_uses o uses) c.nodes) ino ≡ Some node → KeepsSlots c.tables.slots o.slots node
@@ -102,7 +102,7 @@ use_over g image c o whole uses ino others high over = record {
         by false unchanged = waits (λ e at'. ap (λ (x : NodeDraft). x.changed) (one at' at) ∙ unchanged) node is
 
 -- SLOTS ARE NOTED: no node changes
-pub slots_now : (o : Overlaid) (slots : SlotTable) (last : Nodes) → nodes_now (with_slots o slots) last ≡ nodes_now o last
+pub slots_now : (o : Overlaid) (slots : SlotTable) (last : Nodes) → nodes_now (with_slot_table o slots) last ≡ nodes_now o last
 unfolding nodes_now
 slots_now o slots last = refl
 
@@ -135,7 +135,7 @@ module _ (g : Layout) (image : Image) (c : Contents) (o : Overlaid) (whole : IsO
         ],
       )
 
-  pub slots_over : IsOver g (with_slots o slots) image c
+  pub slots_over : IsOver g (with_slot_table o slots) image c
   slots_over = record {
     drafts = over.drafts;
     away = λ k d i addr serial position at small here. (

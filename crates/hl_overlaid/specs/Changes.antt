@@ -44,8 +44,8 @@ reshaped old used shape = record {
 }
 
 -- the shape of a node
-abbrev pub shape_of : FlatNode → Shape
-shape_of n = record { kind = n.kind; size = n.content.size }
+abbrev pub node_shape : FlatNode → Shape
+node_shape n = record { kind = n.kind; size = n.content.size }
 
 -- each slot that held the segment of this serial holds it still
 abbrev pub KeepsSerial : SlotTable → SlotTable → ℕ → Type 0
@@ -71,12 +71,12 @@ with_room o room = record o { overlay = record o.overlay { room = room } }
 abbrev pub with_uses : Overlaid → List ℕ → Overlaid
 with_uses o uses = record o { uses = uses }
 
-abbrev pub with_slots : Overlaid → SlotTable → Overlaid
-with_slots o slots = record o { slots = slots }
+abbrev pub with_slot_table : Overlaid → SlotTable → Overlaid
+with_slot_table o slots = record o { slots = slots }
 
 -- a node used at a moment
-abbrev pub used_at : ℕ → FlatNode → FlatNode
-used_at used n = record { kind = n.kind; content = record { size = n.content.size; used = used_of n.kind used; blocks = n.content.blocks } }
+abbrev pub node_used : ℕ → FlatNode → FlatNode
+node_used used n = record { kind = n.kind; content = record { size = n.content.size; used = used_of n.kind used; blocks = n.content.blocks } }
 
 -- a number has a draft that is changed, or it has none
 abbrev pub IsChangedDraft : Overlaid → ℕ → Type 0

@@ -15,7 +15,7 @@ ghost use Rattle.hl_overlaid.specs.NodesNow.{IsOverlaid, Overlaid, nodes_now, ol
 ghost use Rattle.hl_overlaid.specs.Over.{IsOver};
 ghost use Rattle.hl_overlaid.specs.Changes.{AdmitsNow, CanPut, PutsNow, ShapesNow, TrimsNow};
 ghost use Rattle.hl_overlaid.specs.Changes.{HasNoChangedDraft, IsChangedDraft, KeepsAllSlots, KeepsOtherUses};
-ghost use Rattle.hl_overlaid.specs.Changes.{block_held, reshaped, used_at, with_block, with_room, with_slots, with_uses};
+ghost use Rattle.hl_overlaid.specs.Changes.{block_held, reshaped, node_used, with_block, with_room, with_slot_table, with_uses};
 
 /// A block is put, cleared or sent away: the number has a node, which has that block now and the
 /// number's last use, and no other node changes.
@@ -80,7 +80,7 @@ pub fn to_make_room_changes_no_node()
 pub fn a_use_shows_in_a_changed_draft()
     ensures shows { (g : Layout) (o : Overlaid) → IsOverlaid g o → (uses : List ℕ) (ino : ℕ)
         → KeepsOtherUses o.uses uses ino → (c : Contents) → ino < g.inodes → IsChangedDraft o ino
-        → let node = option_map (used_at (slice_index uses ino)) (get (nodes_now o c.nodes) ino) in
+        → let node = option_map (node_used (slice_index uses ino)) (get (nodes_now o c.nodes) ino) in
         nodes_now (with_uses o uses) c.nodes ≡ with_node (nodes_now o c.nodes) ino node }
     ensures waits { (g : Layout) (o : Overlaid) → IsOverlaid g o → (uses : List ℕ) (ino : ℕ)
         → KeepsOtherUses o.uses uses ino → (last : Nodes) → HasNoChangedDraft o ino
@@ -94,8 +94,8 @@ pub fn a_use_shows_in_a_changed_draft()
 /// node now has a block stays in its slots.
 pub fn to_note_slots_changes_no_node()
     ensures nodes { (o : Overlaid) (slots : SlotTable) (last : Nodes)
-        → nodes_now (with_slots o slots) last ≡ nodes_now o last }
+        → nodes_now (with_slot_table o slots) last ≡ nodes_now o last }
     ensures over { (g : Layout) (image : Image) (c : Contents) (o : Overlaid) (slots : SlotTable)
         → IsOverlaid g o → IsOver g o image c → KeepsAllSlots o c.nodes slots
-        → IsOver g (with_slots o slots) image c }
+        → IsOver g (with_slot_table o slots) image c }
 {}

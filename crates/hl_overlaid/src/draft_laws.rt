@@ -18,7 +18,7 @@ ghost use Rattle.hl_overlay.specs.Overlays.Holding.{Remains};
 ghost use Rattle.hl_overlaid.specs.NodesNow.{IsOverlaid, Overlaid, nodes_now, old_block};
 ghost use Rattle.hl_overlaid.specs.Over.{IsDraftOf, IsOver};
 ghost use Rattle.hl_overlaid.specs.Reading.{ReadsNode, ReadsUnused};
-ghost use Rattle.hl_overlaid.specs.Changes.{block_held, shape_of};
+ghost use Rattle.hl_overlaid.specs.Changes.{block_held, node_shape};
 
 /// A draft has the shape of the node that its number has now, and each of its blocks is that of the
 /// node. An address that it keeps stands for the block, by the image and the slots now.
@@ -26,7 +26,7 @@ pub fn a_draft_is_of_the_node_now()
     ensures shape { (g : Layout) (image : Image) (c : Contents) (o : Overlaid)
         → HasContents g image c → IsOverlaid g o → IsOver g o image c
         → (ino : ℕ) → ino < g.inodes → (d : NodeDraft) → draft_of o.overlay.drafts ino ≡ Some d
-        → d.shape ≡ option_map shape_of (get (nodes_now o c.nodes) ino) }
+        → d.shape ≡ option_map node_shape (get (nodes_now o c.nodes) ino) }
     ensures blocks { (g : Layout) (image : Image) (c : Contents) (o : Overlaid)
         → HasContents g image c → IsOverlaid g o → IsOver g o image c
         → (ino : ℕ) → ino < g.inodes → (d : NodeDraft) → draft_of o.overlay.drafts ino ≡ Some d
