@@ -1,6 +1,6 @@
 -- A draft has the shape and the blocks of the node that its number has now.
-use Rattle.std.proofs.Common.{◌≡◌, ◌≢◌, inl, inr, ℕ, ◌+◌, ◌<◌, ◌≤◌, Bool, true, false, true≢false, List, length, Option, Some, None, refl, sym, ◌∙◌, ap, subst, arith}
-use Rattle.std.specs.Prelude.{if◌then◌else◌, slice_index, option_map}
+use Rattle.std.proofs.Common.{◌≡◌, inl, inr, ℕ, ◌<◌, ◌≤◌, Bool, true, false, true≢false, List, length, Option, Some, None, refl, sym, ◌∙◌, ap, subst, arith}
+use Rattle.std.specs.Prelude.{slice_index, option_map}
 use Rattle.std.specs.FinMap.{get}
 use Rattle.std.proofs.lemmas.Bool.{cases_lt}
 use Rattle.std.proofs.lemmas.List.{get_or_past}
@@ -9,7 +9,7 @@ use Rattle.hl_media.specs.History.{Image}
 use Rattle.hl_addr.specs.Layout.{Layout}
 use Rattle.hl_bytes.specs.declared.block.Block as bytes
 use Rattle.hl_bytes.specs.declared.records.BlockRecord.{BlockRecord}
-use Rattle.hl_placed.specs.Blocks.{Block, Hole, blocks_of, file_block}
+use Rattle.hl_placed.specs.Blocks.{Block, Hole, blocks_of}
 use Rattle.hl_paths.specs.Nodes.{FlatNode}
 use Rattle.hl_overlay.specs.declared.pointers.Pointer.{Pointer}
 use Rattle.hl_overlay.specs.declared.pointers.Pointer.TheVariants as place
@@ -21,7 +21,7 @@ use Rattle.hl_overlay.specs.DraftTables.{draft_of}
 use Rattle.hl_overlay.specs.Overlays.{Holding, holding, holding_of}
 use Rattle.hl_nodes.specs.Nodes.{IsMapEntry}
 use Rattle.hl_nodes.specs.Contents.{Contents, HasContents}
-use Rattle.hl_overlaid.specs.NodesNow.{IsOverlaid, Overlaid, block_now, draft_node, nodes_now, old_block, shaped_node}
+use Rattle.hl_overlaid.specs.NodesNow.{IsOverlaid, Overlaid, block_now, nodes_now, old_block, shaped_node}
 use Rattle.hl_overlaid.specs.Over.{IsAsRead, IsDraftOf, IsOver}
 use Rattle.hl_overlaid.specs.Changes.{block_held, node_shape}
 use Rattle.hl_overlaid.proofs.NowLemmas.{now_changed, now_unchanged, one}

@@ -1,15 +1,14 @@
 -- A draft that follows another is of what the contents have, as that was; and numbers whose drafts say the same have the
 -- same nodes.
-use Rattle.std.proofs.Common.{◌≡◌, ◌≢◌, inl, inr, ℕ, ◌<◌, ◌≤◌, ◌-◌, Bool, true, false, List, length, slice_get, Option, Some, None, refl, sym, ◌∙◌, ap, subst, arith}
-use Rattle.std.specs.Prelude.{if◌then◌else◌, slice_index, option_map, ◌==◌}
+use Rattle.std.proofs.Common.{◌≡◌, ◌≢◌, inl, inr, ℕ, ◌<◌, ◌≤◌, ◌-◌, Bool, true, false, List, length, Option, Some, None, refl, sym, ◌∙◌, ap, subst}
+use Rattle.std.specs.Prelude.{if◌then◌else◌, slice_index, option_map}
 use Rattle.std.specs.FinMap.{get}
 use Rattle.std.proofs.lemmas.Bool.Decides.{eqb_tells}
 use Rattle.hl_media.specs.History.{Image}
 use Rattle.hl_addr.specs.Layout.{Layout}
 use Rattle.hl_bytes.specs.declared.block.Block as bytes
 use Rattle.hl_bytes.specs.declared.records.BlockRecord.{BlockRecord}
-use Rattle.hl_placed.specs.Blocks.{Block, blocks_of, file_block, listed}
-use Rattle.hl_placed.specs.Blocks as blocks
+use Rattle.hl_placed.specs.Blocks.{Block, blocks_of, listed}
 use Rattle.hl_paths.specs.Nodes.{FlatNode, Nodes}
 use Rattle.hl_overlay.specs.declared.pointers.Pointer.{Pointer}
 use Rattle.hl_overlay.specs.declared.pointers.Pointer.TheVariants.{Hole, Kept, Moved, New}
@@ -26,7 +25,7 @@ use Rattle.hl_nodes.specs.Live.NodeBlock.{Content, Pointers}
 use Rattle.hl_nodes.specs.Contents.{Contents}
 use Rattle.hl_overlaid.specs.NodesNow.{Overlaid, block_now, draft_node, drafted_now, nodes_now}
 use Rattle.hl_overlaid.specs.Over.{IsAsRead, IsDraftOf, IsOfKind}
-use Rattle.hl_overlaid.proofs.NowLemmas.{none_some, now_drafted, now_past, one}
+use Rattle.hl_overlaid.proofs.NowLemmas.{now_drafted, now_past}
 
 -- what is held tells the pointer, unless it is to a new block
 pub held_hole : (bs : List (BlockRecord × bytes.Block)) (q : Pointer) → holding_of bs q ≡ Zeros → q ≡ Hole

@@ -1,5 +1,5 @@
 -- Another image with the same live blocks, and contents with the same nodes: an overlay over the one is over the other.
-use Rattle.std.proofs.Common.{◌≡◌, ◌≢◌, inl, inr, ℕ, ◌<◌, ◌≤◌, ◌-◌, List, slice_get, Option, Some, None, refl, sym, ◌∙◌, ap, subst}
+use Rattle.std.proofs.Common.{◌≡◌, ◌≢◌, inl, inr, ℕ, ◌<◌, ◌≤◌, ◌-◌, List, Option, Some, None, refl, sym, ◌∙◌, ap, subst}
 use Rattle.std.specs.Prelude.{slice_index}
 use Rattle.std.specs.FinMap.{get}
 use Rattle.hl_media.specs.History.{Image}

@@ -1,7 +1,6 @@
 -- A node is drafted as it was read, drafts are trimmed, and room is made: the nodes now stay.
-use Rattle.std.proofs.Common.{◌≡◌, ◌≢◌, ◌⊎◌, inl, inr, ℕ, ◌<◌, ◌≤◌, Bool, true, false, true≢false, List, length, slice_get, Option, Some, None, refl, sym, ◌∙◌, ap, subst, arith}
-use Rattle.std.specs.Prelude.{if◌then◌else◌, slice_index}
-use Rattle.std.specs.List.{fold}
+use Rattle.std.proofs.Common.{◌≡◌, ◌≢◌, ◌⊎◌, inl, inr, ℕ, ◌<◌, Bool, true, false, true≢false, length, slice_get, Option, Some, None, refl, sym, ◌∙◌, ap, subst}
+use Rattle.std.specs.Prelude.{slice_index}
 use Rattle.std.specs.FinMap.{get}
 use Rattle.std.proofs.lemmas.Bool.{cases_eq, cases_lt}
 use Rattle.hl_media.specs.History.{Image}
@@ -14,7 +13,7 @@ use Rattle.hl_overlay.specs.Pointing.{IsUnwritten, where_is}
 use Rattle.hl_overlay.specs.DraftTables.{draft_of}
 use Rattle.hl_nodes.specs.Contents.{Contents}
 use Rattle.hl_nodes.specs.Fates.{KeepsSlots}
-use Rattle.hl_overlaid.specs.NodesNow.{Overlaid, block_now, drafted_now, nodes_now}
+use Rattle.hl_overlaid.specs.NodesNow.{Overlaid, block_now, nodes_now}
 use Rattle.hl_overlaid.specs.Over.{GoesInto, IsDraftOf, IsOver}
 use Rattle.hl_overlaid.specs.Changes.{AdmitsNow, IsChange, TrimsNow, with_room}
 use Rattle.hl_overlaid.proofs.NowLemmas.{none_some, now_drafted, now_unchanged, one, same_nodes}

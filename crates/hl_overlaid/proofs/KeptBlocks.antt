@@ -1,5 +1,5 @@
 -- What a kept pointer stands for is the block that the node has now.
-use Rattle.std.proofs.Common.{◌≡◌, ◌≢◌, ℕ, ◌<◌, ◌≤◌, List, length, Option, Some, None, refl, sym, ◌∙◌, ap, subst}
+use Rattle.std.proofs.Common.{◌≡◌, ◌≢◌, ℕ, ◌<◌, Option, Some, None, refl, sym, ◌∙◌, ap, subst}
 use Rattle.std.specs.Prelude.{slice_index, option_map}
 use Rattle.std.specs.FinMap.{get}
 use Rattle.hl_media.specs.History.{Image}

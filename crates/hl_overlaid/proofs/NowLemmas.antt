@@ -1,19 +1,18 @@
 -- The nodes now, number by number.
-use Rattle.std.proofs.Common.{◌≡◌, ◌≢◌, inl, inr, ℕ, zero, suc, ◌+◌, ◌<◌, ◌≤◌, Bool, true, false, List, [], ◌∷◌, length, slice_get, Option, Some, None, refl, sym, ◌∙◌, ap, subst, arith}
-use Rattle.std.specs.Prelude.{if◌then◌else◌, nat_lt, cond, ◌==◌, slice_index}
+use Rattle.std.proofs.Common.{◌≡◌, ◌≢◌, inl, inr, ℕ, zero, suc, ◌<◌, ◌≤◌, Bool, true, false, List, [], ◌∷◌, length, slice_get, Option, Some, None, refl, sym, ◌∙◌, ap, subst, arith}
+use Rattle.std.specs.Prelude.{if◌then◌else◌, cond, ◌==◌, slice_index}
 use Rattle.std.specs.List.{fold}
 use Rattle.std.specs.Cmp.{unsigned_tied}
 use Rattle.std.specs.FinMap.{get, get-insert, get-remove, same_map, nat_cmp-IsAntisymmetric}
-use Rattle.std.proofs.lemmas.Bool.{cases_eq, cases_lt, lt-ltb, le-ltb}
+use Rattle.std.proofs.lemmas.Bool.{cases_lt, lt-ltb, le-ltb}
 use Rattle.std.proofs.lemmas.Bool.Decides.{eqb_tells}
 use Rattle.std.proofs.lemmas.Cmp.{nat_cmp_total}
-use Rattle.hl_addr.specs.Layout.{Layout}
 use Rattle.hl_paths.specs.Nodes.{FlatNode, Nodes}
 use Rattle.hl_overlay.specs.declared.draft.NodeDraft.{NodeDraft}
 use Rattle.hl_overlay.specs.Clearing.{HaveOwnNumbers}
 use Rattle.hl_overlay.specs.DraftTables.{IsDraftTable, draft_of}
 use Rattle.hl_overlay.proofs.TrimLemmas.{items_apart}
-use Rattle.hl_overlaid.specs.NodesNow.{IsOverlaid, Overlaid, draft_node, drafted_now, node_now, nodes_now, with_draft, with_node}
+use Rattle.hl_overlaid.specs.NodesNow.{Overlaid, draft_node, drafted_now, node_now, nodes_now, with_draft, with_node}
 
 -- one value
 pub one : {A : Type 0} {o : Option A} {a b : A} → o ≡ Some a → o ≡ Some b → a ≡ b

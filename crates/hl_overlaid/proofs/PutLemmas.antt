@@ -1,6 +1,6 @@
 -- A block of a drafted node is put, cleared or sent away.
-use Rattle.std.proofs.Common.{◌≡◌, ◌≢◌, ◌⊎◌, inl, inr, ℕ, ◌<◌, ◌≤◌, Bool, true, false, true≢false, List, length, slice_get, Option, Some, None, refl, sym, ◌∙◌, ap, subst, arith}
-use Rattle.std.specs.Prelude.{if◌then◌else◌, nat_le, slice_index, slice_set, option_map}
+use Rattle.std.proofs.Common.{◌≡◌, ◌≢◌, ◌⊎◌, inl, inr, ℕ, ◌<◌, ◌≤◌, Bool, false, true≢false, List, length, slice_get, Option, Some, None, refl, sym, ◌∙◌, ap, subst, arith}
+use Rattle.std.specs.Prelude.{if◌then◌else◌, slice_index, slice_set, option_map}
 use Rattle.std.specs.FinMap.{get}
 use Rattle.std.proofs.lemmas.Bool.{cases_eq, cases_lt}
 use Rattle.std.proofs.lemmas.Bool.Decides.{leb_tells}
@@ -13,25 +13,24 @@ use Rattle.hl_tseg.specs.Slots.{HoldsSerial}
 use Rattle.hl_placed.specs.Blocks.{Away, Block, Here, blocks_of, file_block}
 use Rattle.hl_placed.specs.Blocks as blocks
 use Rattle.hl_paths.specs.Nodes.{FlatNode}
-use Rattle.hl_overlay.specs.declared.pointers.Pointer.{Pointer}
 use Rattle.hl_overlay.specs.declared.pointers.Pointer.TheVariants.{Hole, Kept, Moved}
 use Rattle.hl_overlay.specs.declared.draft.NodeDraft.{NodeDraft}
 use Rattle.hl_overlay.specs.declared.draft.Shape.{Shape}
-use Rattle.hl_overlay.specs.Pointing.{pointer_to, where_is}
+use Rattle.hl_overlay.specs.Pointing.{where_is}
 use Rattle.hl_overlay.specs.Drafting.{blocks_of_shape, with_pointer}
 use Rattle.hl_overlay.specs.DraftTables.{draft_of}
-use Rattle.hl_overlay.specs.Overlays.{Holding, holding, holding_of, without_pointers}
+use Rattle.hl_overlay.specs.Overlays.{Holding, holding_of, without_pointers}
 use Rattle.hl_overlay.specs.Overlays.Holding.{Fresh, GoesAway, Remains, Zeros}
 use Rattle.hl_overlay.specs.Making.{used_of}
 use Rattle.hl_overlay.proofs.TableLemmas.{blocks_most}
 use Rattle.hl_nodes.specs.Contents.{Contents}
 use Rattle.hl_nodes.specs.Fates.{KeepsSlots}
-use Rattle.hl_overlaid.specs.NodesNow.{Overlaid, block_now, draft_node, nodes_now, old_block, shaped_node, with_node}
-use Rattle.hl_overlaid.specs.Over.{GoesInto, IsDraftOf, IsOver}
+use Rattle.hl_overlaid.specs.NodesNow.{Overlaid, block_now, nodes_now, old_block, shaped_node, with_node}
+use Rattle.hl_overlaid.specs.Over.{GoesInto, IsOver}
 use Rattle.hl_overlaid.specs.Changes.{CanPut, PutsNow, block_held, node_shape, with_block}
 use Rattle.hl_overlaid.proofs.NowLemmas.{none_some, now_changed, one, same_nodes, with_node-other, with_node-same}
 use Rattle.hl_overlaid.proofs.DraftBlocks.{block_now-held, now_block, now_count, now_shape}
-use Rattle.hl_overlaid.proofs.Following.{Follows, SaysSame, held_hole, held_kept, held_moved, held_to, of_following, same_node, same_now, same_past, same_undrafted}
+use Rattle.hl_overlaid.proofs.Following.{Follows, held_hole, held_kept, held_moved, held_to, of_following, same_node, same_now, same_past, same_undrafted}
 
 -- what a mapped value comes from
 pub mapped : {A B : Type 0} (f : A → B) (o : Option A) (y : B) → option_map f o ≡ Some y → (x : A) × (o ≡ Some x) × (f x ≡ y)

@@ -1,6 +1,6 @@
 -- A drafted node gets another shape.
-use Rattle.std.proofs.Common.{◌≡◌, ◌≢◌, ◌⊎◌, inl, inr, ℕ, ◌<◌, ◌≤◌, Bool, true, false, true≢false, List, length, slice_get, Option, Some, None, refl, sym, ◌∙◌, ap, subst, arith}
-use Rattle.std.specs.Prelude.{if◌then◌else◌, slice_index, option_map}
+use Rattle.std.proofs.Common.{◌≡◌, ◌≢◌, ◌⊎◌, inl, inr, ℕ, ◌<◌, ◌≤◌, true≢false, length, slice_get, Option, Some, None, refl, sym, ◌∙◌, ap, subst, arith}
+use Rattle.std.specs.Prelude.{slice_index, option_map}
 use Rattle.std.specs.FinMap.{get}
 use Rattle.std.proofs.lemmas.Bool.{cases_eq, cases_lt}
 use Rattle.std.proofs.lemmas.List.{ext_get_or, get_or_past}
@@ -9,12 +9,11 @@ use Rattle.hl_media.specs.History.{Image}
 use Rattle.hl_addr.specs.Layout.{Layout}
 use Rattle.hl_tseg.specs.SlotTable.{SlotTable, slot_at}
 use Rattle.hl_tseg.specs.Slots.{HoldsSerial}
-use Rattle.hl_inode.specs.declared.inode.Kind.TheVariants.{File}
 use Rattle.hl_placed.specs.Blocks.{Away, Block, blocks_of, file_block, listed}
 use Rattle.hl_placed.specs.Blocks as blocks
 use Rattle.hl_paths.specs.Nodes.{FlatNode}
 use Rattle.hl_overlay.specs.declared.pointers.Pointer.{Pointer}
-use Rattle.hl_overlay.specs.declared.pointers.Pointer.TheVariants.{Hole, Kept, Moved}
+use Rattle.hl_overlay.specs.declared.pointers.Pointer.TheVariants.{Kept, Moved}
 use Rattle.hl_overlay.specs.declared.draft.NodeDraft.{NodeDraft}
 use Rattle.hl_overlay.specs.declared.draft.Shape.{Shape}
 use Rattle.hl_overlay.specs.Pointing.{where_is}
@@ -24,7 +23,7 @@ use Rattle.hl_overlay.specs.Making.{used_of}
 use Rattle.hl_overlay.proofs.TableLemmas.{blocks_most}
 use Rattle.hl_nodes.specs.Contents.{Contents}
 use Rattle.hl_nodes.specs.Fates.{KeepsSlots}
-use Rattle.hl_overlaid.specs.NodesNow.{Overlaid, block_now, draft_node, nodes_now, old_block, shaped_node, with_node}
+use Rattle.hl_overlaid.specs.NodesNow.{Overlaid, block_now, nodes_now, old_block, shaped_node, with_node}
 use Rattle.hl_overlaid.specs.Over.{GoesInto, IsDraftOf, IsOver}
 use Rattle.hl_overlaid.specs.Changes.{IsOwnPointer, KeepsKind, ShapesNow, reshaped}
 use Rattle.hl_overlaid.proofs.NowLemmas.{none_some, now_changed, one}

@@ -1,7 +1,7 @@
 -- THE MAKING: the unit of an overlay changes the nodes of the last unit into those that the site has now.
-use Rattle.std.proofs.Common.{◌≡◌, ◌≢◌, inl, inr, ℕ, zero, suc, ◌+◌, ◌-◌, ◌<◌, ◌≤◌, Bool, true, false, true≢false, not, ◌&&◌, List, [], ◌∷◌, ◌++◌, length, slice_get, Option, Some, None, refl, sym, ◌∙◌, ap, subst, arith}
+use Rattle.std.proofs.Common.{◌≡◌, ◌≢◌, inl, inr, ℕ, ◌+◌, ◌-◌, ◌<◌, ◌≤◌, Bool, true, false, true≢false, not, ◌&&◌, List, [], ◌∷◌, ◌++◌, length, slice_get, Option, Some, None, refl, sym, ◌∙◌, ap, subst, arith}
 use Rattle.std.specs.Prelude.{if◌then◌else◌, slice_index, Contains, map, option_map, unwrap_or, is_none, ◌==◌}
-use Rattle.std.specs.List.{filter, fold}
+use Rattle.std.specs.List.{filter}
 use Rattle.std.specs.FinMap.{get}
 use Rattle.std.proofs.lemmas.Bool.{cases_lt}
 use Rattle.std.proofs.lemmas.Bool.Decides.{eqb_tells}
@@ -23,7 +23,6 @@ use Rattle.hl_tseg.specs.SlotTable.{SlotTable, slot_at}
 use Rattle.hl_tseg.specs.Slots.{HoldsSerial}
 use Rattle.hl_inode.specs.declared.inode.Inode.{Inode}
 use Rattle.hl_inode.specs.declared.inode.Kind.{Kind}
-use Rattle.hl_inode.specs.declared.inode.Kind.TheVariants.{File}
 use Rattle.hl_inode.specs.Inodes.{Spells}
 use Rattle.hl_inode.specs.Pointers.{pointers_of}
 use Rattle.hl_placed.specs.Blocks as blocks
@@ -59,9 +58,9 @@ use Rattle.hl_nodes.proofs.Membership.{in_append}
 use Rattle.hl_nodes.proofs.PointerLemmas.{in_log-some, pointer_in-same}
 use Rattle.hl_nodes.proofs.Frame.{one_inode}
 use Rattle.hl_nodes.proofs.UnitLaws.{limits, node_in_log}
-use Rattle.hl_overlaid.specs.NodesNow.{Overlaid, block_now, draft_node, drafted_now, nodes_now, old_block, shaped_node}
-use Rattle.hl_overlaid.specs.Over.{IsDraftOf, IsOfKind}
-use Rattle.hl_overlaid.specs.Units.{IsOfSlots, IsUnitNow, brought_by, unit_changes}
+use Rattle.hl_overlaid.specs.NodesNow.{Overlaid, block_now, draft_node, nodes_now, old_block, shaped_node}
+use Rattle.hl_overlaid.specs.Over.{IsDraftOf}
+use Rattle.hl_overlaid.specs.Units.{IsUnitNow, brought_by, unit_changes}
 use Rattle.hl_overlaid.proofs.NowLemmas.{none_some, now_changed, now_drafted, now_past, now_zero, one}
 use Rattle.hl_overlaid.proofs.UnitBlocks.{Brings, HasOnce, brings_of, filter_has, in_filter, in_front, in_map, map_at, map_has, once_of, own_of}
 use Rattle.hl_overlaid.proofs.UnitTables.{append_has, changes-slots, filter_apart, frees_once_by, not_freeing}

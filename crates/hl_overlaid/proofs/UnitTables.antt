@@ -1,5 +1,5 @@
 -- What the changes of a unit make of the tables: the numbers that become free, and what was noted of slots.
-use Rattle.std.proofs.Common.{◌≡◌, ◌≢◌, inl, inr, ℕ, zero, suc, ◌+◌, ◌-◌, ◌<◌, ◌≤◌, Bool, true, false, List, [], ◌∷◌, ◌++◌, length, length-append, get_or, slice_get, Some, refl, sym, ◌∙◌, ap, subst, arith}
+use Rattle.std.proofs.Common.{◌≡◌, inl, inr, ℕ, zero, suc, ◌-◌, ◌≤◌, Bool, true, false, List, [], ◌∷◌, ◌++◌, length, length-append, get_or, refl, sym, ◌∙◌, ap, subst, arith}
 use Rattle.std.specs.Prelude.{if◌then◌else◌, All, Contains, map}
 use Rattle.std.specs.List.{filter, fold}
 use Rattle.std.proofs.lemmas.Bool.{cases_lt}
@@ -17,7 +17,7 @@ use Rattle.hl_overlay.proofs.CountLemmas.{there}
 use Rattle.hl_nodes.specs.Units.{FreesOnce, blocks_placed, unit_laid}
 use Rattle.hl_nodes.proofs.Lookups.{unit_laid-slots}
 use Rattle.hl_overlaid.specs.Units.{IsOfSlots}
-use Rattle.hl_overlaid.proofs.NowLemmas.{none_some, one}
+use Rattle.hl_overlaid.proofs.NowLemmas.{none_some}
 use Rattle.hl_overlaid.proofs.UnitBlocks.{in_filter, map_at}
 
 -- the record of an inode's own block

@@ -3,8 +3,7 @@ use Rattle.std.proofs.Common.{◌≡◌, ◌≢◌, inl, inr, ℕ, ◌<◌, ◌�
 use Rattle.std.specs.Prelude.{slice_get, slice_index, option_map}
 use Rattle.std.specs.FinMap.{get}
 use Rattle.std.proofs.lemmas.Bool.{cases_eq, cases_lt}
-use Rattle.std.proofs.lemmas.List.{get_or_past}
-use Rattle.std.proofs.lemmas.List.FromFn.{length-map-range_with_len, get_or-map-range_with_len}
+use Rattle.std.proofs.lemmas.List.FromFn.{get_or-map-range_with_len}
 use Rattle.hl_media.specs.History.{Image}
 use Rattle.hl_addr.specs.Layout.{Layout}
 use Rattle.hl_addr.specs.Slots.{slot_number}
@@ -21,9 +20,9 @@ use Rattle.hl_overlay.specs.DraftTables.{draft_of}
 use Rattle.hl_nodes.specs.Contents.{Contents}
 use Rattle.hl_nodes.specs.Fates.{KeepsSlots}
 use Rattle.hl_overlaid.specs.NodesNow.{IsOverlaid, Overlaid, block_now, draft_node, nodes_now, shaped_node, with_node}
-use Rattle.hl_overlaid.specs.Over.{GoesInto, IsOver}
+use Rattle.hl_overlaid.specs.Over.{IsOver}
 use Rattle.hl_overlaid.specs.Changes.{HasNoChangedDraft, IsChangedDraft, KeepsAllSlots, KeepsOtherUses, node_used, with_slot_table, with_uses}
-use Rattle.hl_overlaid.proofs.NowLemmas.{none_some, now_changed, now_unchanged, one, same_nodes}
+use Rattle.hl_overlaid.proofs.NowLemmas.{none_some, now_changed, one, same_nodes}
 use Rattle.hl_overlaid.proofs.Following.{same_node, same_now, same_past, same_undrafted}
 use Rattle.hl_overlaid.proofs.PutLemmas.{mapped, with_one}
 

@@ -1,6 +1,6 @@
 -- Overlays worked out: the nodes now as values.
-use Rattle.std.proofs.Common.{◌≡◌, ℕ, true, false, List, [], ◌∷◌, Option, Some, None, refl, ap}
-use Rattle.std.specs.FinMap.{empty, get, insert, remove}
+use Rattle.std.proofs.Common.{◌≡◌, true, false, List, [], ◌∷◌, Option, Some, None, refl, ap}
+use Rattle.std.specs.FinMap.{get, insert, remove}
 use Rattle.hl_inode.specs.declared.inode.Kind.TheVariants.{File}
 use Rattle.hl_tseg.specs.SlotTable.{SlotTable}
 use Rattle.hl_placed.specs.Blocks.{Away, Block, Here, Hole, blocks_of, file_block}

@@ -18,7 +18,6 @@ use Rattle.hl_nodes.specs.Contents.{Contents}
 use Rattle.hl_nodes.specs.Fates.{KeepsSlots}
 use Rattle.hl_overlay.specs.declared.pointers.Pointer.TheVariants.{Hole, Kept, Moved}
 use Rattle.hl_overlay.specs.declared.draft.NodeDraft.{NodeDraft}
-use Rattle.hl_overlay.specs.declared.draft.Shape.{Shape}
 use Rattle.hl_overlay.specs.Pointing.{pointer_to, where_is}
 use Rattle.hl_overlaid.specs.NodesNow.{Overlaid, nodes_now}
 
