@@ -14,3 +14,4 @@ pub mod ReadLemmas
 pub mod UseLemmas
 pub mod KeptBlocks
 pub mod WorkedExamples
+pub mod SerialLemmas

@@ -59,21 +59,21 @@ module _ (g : Layout) (image : Image) (c : Contents) (old new : Overlaid) (ino i
   small = (let most = blocks_most is.block.draft (is.change.before.table.drafts (slice_index old.overlay.drafts.places ino) is.block.draft is.block.is) in let lt = is.block.within in omega arith)
 
   -- the draft behind the change
-  drafted : (e : NodeDraft) × (draft_of new.overlay.drafts ino ≡ Some e) × (without_pointers e ≡ without_pointers (with_pointer is.block.draft i Hole))
+  pub drafted : (e : NodeDraft) × (draft_of new.overlay.drafts ino ≡ Some e) × (without_pointers e ≡ without_pointers (with_pointer is.block.draft i Hole))
   drafted = mapped without_pointers (draft_of new.overlay.drafts ino) (without_pointers (with_pointer is.block.draft i Hole)) (is.keeps.own ∙ ap (option_map (λ (x : NodeDraft). without_pointers (with_pointer x i Hole))) is.block.is)
 
   -- what is held by drafts of a number, before and behind
-  held_same : (q j : ℕ) (a b : NodeDraft) → q < length old.overlay.drafts.places → (q ≢ ino) ⊎ (j ≢ i) → draft_of old.overlay.drafts q ≡ Some a → draft_of new.overlay.drafts q ≡ Some b
+  pub held_same : (q j : ℕ) (a b : NodeDraft) → q < length old.overlay.drafts.places → (q ≢ ino) ⊎ (j ≢ i) → draft_of old.overlay.drafts q ≡ Some a → draft_of new.overlay.drafts q ≡ Some b
       → holding_of new.overlay.blocks (where_is b.pointers j) ≡ holding_of old.overlay.blocks (where_is a.pointers j)
   held_same q j a b lt apart at_a at_b = one
       (sym (is.puts.others q j lt apart) ∙ ap (λ (x : Option NodeDraft). option_map (holding_of new.overlay.blocks) (option_map (λ (y : NodeDraft). where_is y.pointers j) x)) at_b)
       (ap (λ (x : Option NodeDraft). option_map (holding_of old.overlay.blocks) (option_map (λ (y : NodeDraft). where_is y.pointers j) x)) at_a)
 
-  held_here : (e : NodeDraft) → draft_of new.overlay.drafts ino ≡ Some e → holding_of new.overlay.blocks (where_is e.pointers i) ≡ h
+  pub held_here : (e : NodeDraft) → draft_of new.overlay.drafts ino ≡ Some e → holding_of new.overlay.blocks (where_is e.pointers i) ≡ h
   held_here e at_e = one (ap (λ (x : Option NodeDraft). option_map (holding_of new.overlay.blocks) (option_map (λ (y : NodeDraft). where_is y.pointers i) x)) at_e) is.puts.here
 
   -- the draft of another number
-  other : (q : ℕ) (e : NodeDraft) → q < length old.overlay.drafts.places → q ≢ ino → draft_of new.overlay.drafts q ≡ Some e → (a : NodeDraft) × (draft_of old.overlay.drafts q ≡ Some a) × (without_pointers a ≡ without_pointers e)
+  pub other : (q : ℕ) (e : NodeDraft) → q < length old.overlay.drafts.places → q ≢ ino → draft_of new.overlay.drafts q ≡ Some e → (a : NodeDraft) × (draft_of old.overlay.drafts q ≡ Some a) × (without_pointers a ≡ without_pointers e)
   other q e lt ne at_e = mapped without_pointers (draft_of old.overlay.drafts q) (without_pointers e) (sym (is.keeps.others q lt ne) ∙ ap (option_map without_pointers) at_e)
 
   -- its node stays

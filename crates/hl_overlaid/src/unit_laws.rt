@@ -11,7 +11,9 @@ ghost use Rattle.hl_log.specs.declared.piece.Piece.{Piece};
 ghost use Rattle.hl_log.specs.declared.position.Position.{Position};
 ghost use Rattle.hl_log.specs.Cut.{addresses};
 ghost use Rattle.hl_tables.specs.Laying.{changed};
-ghost use Rattle.hl_nodes.specs.Contents.{Contents};
+ghost use Rattle.hl_paths.specs.Nodes.{Nodes};
+ghost use Rattle.hl_nodes.specs.Tables.{raised};
+ghost use Rattle.hl_nodes.specs.Contents.{Contents, next_tertiary};
 ghost use Rattle.hl_nodes.specs.Fates.{Changes, freed};
 ghost use Rattle.hl_nodes.specs.Units.{after_unit, blocks_placed, unit_laid};
 ghost use Rattle.hl_overlay.specs.DraftTables.{freed_of};
@@ -30,7 +32,7 @@ pub fn a_unit_makes_the_nodes_now()
 {}
 
 /// Behind the unit an overlay without drafts over the same slots is over the contents, whose slots
-/// those are, and its nodes are theirs.
+/// those are. Their next tertiary serial is the one before, raised by what was noted.
 pub fn nothing_is_drafted_behind_a_unit()
     ensures over { (g : Layout) (p : Position) (clean : List ℕ) (o : Overlaid)
         (notes : List TableRecord) (c : Contents) (blocks : List (BlockRecord × Block))
@@ -46,6 +48,13 @@ pub fn nothing_is_drafted_behind_a_unit()
         → IsUnitNow g p clean o notes c blocks pieces rest s
         → let u = brought_by blocks (unit_changes o.overlay notes) in
         (unit_laid c.tables u (addresses g pieces)).slots ≡ o.slots }
+    ensures serial { (g : Layout) (p : Position) (clean : List ℕ) (o : Overlaid)
+        (notes : List TableRecord) (c : Contents) (blocks : List (BlockRecord × Block))
+        (pieces : List Piece) (rest : List ℕ) (s : MachineState)
+        → IsUnitNow g p clean o notes c blocks pieces rest s
+        → let u = brought_by blocks (unit_changes o.overlay notes) in
+        (nodes : Nodes) → next_tertiary (after_unit g p c u pieces nodes)
+        ≡ fold raised (next_tertiary c) notes }
 {}
 
 /// The tables behind the unit are those before with the notes, in which each inode block of the unit
