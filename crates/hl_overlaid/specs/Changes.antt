@@ -78,7 +78,7 @@ with_slot_table o slots = record o { slots = slots }
 abbrev pub node_used : ℕ → FlatNode → FlatNode
 node_used used n = record { kind = n.kind; content = record { size = n.content.size; used = used_of n.kind used; blocks = n.content.blocks } }
 
--- a number has a draft that is changed, or it has none
+-- a number has a changed draft, or has none
 abbrev pub IsChangedDraft : Overlaid → ℕ → Type 0
 IsChangedDraft o ino = (d : NodeDraft) × (draft_of o.overlay.drafts ino ≡ Some d) × (d.changed ≡ true)
 
