@@ -1,0 +1,17 @@
+pub mod NowLemmas
+pub mod UnitBlocks
+pub mod UnitTables
+pub mod FarPointers
+pub mod UnitMakes
+pub mod DraftBlocks
+pub mod Following
+pub mod PutLemmas
+pub mod ShapeLemmas
+pub mod KeepLemmas
+pub mod ImageLemmas
+pub mod BehindLemmas
+pub mod ReadLemmas
+pub mod UseLemmas
+pub mod KeptBlocks
+pub mod WorkedExamples
+pub mod SerialLemmas

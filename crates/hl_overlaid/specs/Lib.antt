@@ -1,0 +1,5 @@
+pub mod NodesNow
+pub mod Over
+pub mod Reading
+pub mod Changes
+pub mod Units
