@@ -12,7 +12,8 @@ use Rattle.hl_tables.specs.Values.{TableValues}
 use Rattle.hl_paths.specs.Nodes.{FlatNode}
 use Rattle.hl_overlay.specs.declared.draft.NodeDraft.{NodeDraft}
 use Rattle.hl_overlay.specs.Pointing.{pointer_to}
-use Rattle.hl_nodes.specs.Pointers.{HasPointerBlock, InLog, pointer_of}
+use Rattle.hl_image.specs.Places.{InLog}
+use Rattle.hl_nodes.specs.Pointers.{HasPointerBlock, pointer_of}
 use Rattle.hl_nodes.specs.Nodes.{IsInodeAt, IsMapEntry}
 use Rattle.hl_nodes.specs.Live.{HasAddress, IsLive, IsNodeBlock, LiesAt, NodeBlock, PointsAt}
 use Rattle.hl_nodes.specs.Live.LiveBlock.{OfNode}

@@ -40,7 +40,8 @@ use Rattle.hl_overlay.specs.Making.{AddsPointerBlock, IsPointerBlockOf, resolved
 use Rattle.hl_overlay.proofs.TableLemmas.{blocks_most, slice_get-append_end}
 use Rattle.hl_overlay.proofs.TrimLemmas.{items_apart}
 use Rattle.hl_overlay.proofs.MakingLemmas.{adds_all_front}
-use Rattle.hl_nodes.specs.Pointers.{InLog, HasPointerBlock, IsPointerBlock, pointer_in, pointer_of}
+use Rattle.hl_image.specs.Places.{InLog}
+use Rattle.hl_nodes.specs.Pointers.{HasPointerBlock, IsPointerBlock, pointer_in, pointer_of}
 use Rattle.hl_nodes.specs.Blocks.{LiesAway, StandsFor}
 use Rattle.hl_nodes.specs.Nodes.{IsMapEntry}
 use Rattle.hl_nodes.specs.Live.{HasAddress, IsNodeBlock, record_of}
@@ -52,7 +53,7 @@ use Rattle.hl_nodes.specs.Fates.{BringsOnce, Changes, Fate, HasFate, IsLeftAlone
 use Rattle.hl_nodes.specs.Fates.Fate.{Kept, Freed, Written}
 use Rattle.hl_nodes.specs.Brings.{BringsBlock, BringsInode, BringsPointers, IsBrought}
 use Rattle.hl_nodes.proofs.BringLaws.{brings_write, brought_there}
-use Rattle.hl_nodes.proofs.Cuts.{cut_in_log}
+use Rattle.hl_log.proofs.Cuts.{cut_in_log}
 use Rattle.hl_nodes.proofs.Lookups.{unit_laid-slots}
 use Rattle.hl_nodes.proofs.Membership.{in_append}
 use Rattle.hl_nodes.proofs.PointerLemmas.{in_log-some, pointer_in-same}

@@ -10,7 +10,7 @@ use Rattle.hl_overlay.specs.declared.overlay.BlockNow.{BlockNow}
 use Rattle.hl_overlay.specs.declared.overlay.BlockNow.TheVariants as now
 use Rattle.hl_overlay.specs.Pointing.{where_is}
 use Rattle.hl_overlay.specs.Drafting.{IsDraft, with_pointer, with_shape}
-use Rattle.hl_overlay.specs.DraftTables.{DraftTable, Redrafts, draft_of, others_of}
+use Rattle.hl_overlay.specs.DraftTables.{DraftTable, IsDraftTable, Redrafts, draft_of, others_of}
 
 -- the drafts, the new blocks in their order, and for how many more there is room
 pub record OverlayValue : Type 0 where
@@ -41,6 +41,11 @@ AreOthersNamed but t blocks = AreNamedBut but (length t.places) (where_in t) blo
 -- the new blocks are those that the drafts name
 abbrev pub IsOverlay : OverlayValue → Type 0
 IsOverlay v = AreNamed (length v.drafts.places) (where_in v.drafts) v.blocks
+
+-- the drafts are a table, and name the new blocks
+pub record IsWholeOverlay (v : OverlayValue) : Type 0 where
+  pub table : IsDraftTable v.drafts
+  pub named : IsOverlay v
 
 -- What stands in a block of a drafted node: zeros; what the disk has at an address; a block of a tertiary segment, at an
 -- address that the next unit gives it; or new bytes.

@@ -104,6 +104,7 @@ impl Drafts {
         requires { ino < length self.now.places }
         ensures value { option_copied result ≡ draft_of self.now ino }
         ensures is { IfSome result (λ draft. IsDraft draft.now) }
+        ensures whole { IsDraftTable self.now }
     {
         let place = self.places[ino as usize];
         self.items.get(place)
@@ -173,6 +174,7 @@ impl Drafts {
     pub fn trim(&mut self, most: usize)
         ensures trims { Trims most self.old self.new }
         ensures is { IsDraftTable self.old }
+        ensures whole { IsDraftTable self.new }
     {
         if self.items.as_slice().len() <= most {
             return;

@@ -65,7 +65,7 @@ fn copied_block(bytes: &[u8]) -> Block
 }
 
 impl Overlay {
-    ghost use Rattle.hl_overlay.specs.Overlays.{IsEmpty, IsBlockNow, IsOverlay, KeepsDrafts, PutsBlock, WritesOver, holding, holding_of};
+    ghost use Rattle.hl_overlay.specs.Overlays.{IsEmpty, IsBlockNow, IsOverlay, IsWholeOverlay, KeepsDrafts, PutsBlock, WritesOver, holding, holding_of};
     ghost use Rattle.hl_overlay.specs.Overlays.Holding.{Fresh, GoesAway, Zeros};
 
     /// An overlay for the numbers from 0 on, none of them drafted. A site has at most 2,048.
@@ -85,6 +85,7 @@ impl Overlay {
         requires { ino < length self.now.drafts.places }
         ensures value { option_copied result ≡ draft_of self.now.drafts ino }
         ensures is { IfSome result (λ draft. IsDraft draft.now) }
+        ensures whole { IsWholeOverlay self.now }
     {
         self.drafts.get(ino)
     }
@@ -205,6 +206,8 @@ impl Overlay {
     /// drafts held.
     pub fn trim(&mut self, most: usize)
         ensures drafts { Trims most self.old.drafts self.new.drafts }
+        ensures was { IsWholeOverlay self.old }
+        ensures whole { IsWholeOverlay self.new }
         ensures blocks { self.new.blocks ≡ self.old.blocks }
         ensures room { self.new.room ≡ self.old.room }
     {

@@ -17,3 +17,6 @@ invariant_of-self c = (trimmed_in _ c.args.self.now _ c.self.inside.others c.sel
 
 pub returns-clause-trims : goal.returns-clause-trims
 returns-clause-trims c = (trimmed_in _ c.args.self.now _ c.self.inside.others c.self.inside.freed c.args.most c.forget.new.places.items c.as_slice-2.result.now c.as_slice-3.result.now c.self.view_is c.self.invariant c.as_slice-2.ensures.value c.as_slice-3.ensures.value c.keep_changed.ensures c.forget.ensures c.place_all.ensures (let many = c.if-as_slice-most.false in let same : length c.as_slice-2.result.now ≡ length c.as_slice.result.now = ap length (c.as_slice-2.ensures.value ∙ sym c.as_slice.ensures.value) in omega arith)).1
+
+pub returns-clause-whole : goal.returns-clause-whole
+returns-clause-whole c = (trimmed_in _ c.args.self.now _ c.self.inside.others c.self.inside.freed c.args.most c.forget.new.places.items c.as_slice-2.result.now c.as_slice-3.result.now c.self.view_is c.self.invariant c.as_slice-2.ensures.value c.as_slice-3.ensures.value c.keep_changed.ensures c.forget.ensures c.place_all.ensures (let many = c.if-as_slice-most.false in let same : length c.as_slice-2.result.now ≡ length c.as_slice.result.now = ap length (c.as_slice-2.ensures.value ∙ sym c.as_slice.ensures.value) in omega arith)).0.table
