@@ -5,3 +5,16 @@ pub mod ListLaws
 pub mod LiveFound
 pub mod Apart
 pub mod SlotsPossible
+pub mod SegmentsFound
+pub mod AwayFound
+pub mod NodeBlocks
+pub mod ReachFound
+pub mod ShelvesFound
+pub mod SoundFound
+pub mod ChargesFound
+pub mod StagedFound
+pub mod DirectoriesFound
+pub mod TreeServed
+pub mod LastBlocks
+pub mod TreePut
+pub mod FilesFound

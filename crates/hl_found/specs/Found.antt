@@ -54,8 +54,17 @@ FindsTables g image rec parts found = MatchOption found
     ((t : TableValues) → ¬ HasLaidTables g image rec parts t)
     (λ t. HasLaidTables g image rec parts t)
 
+-- each part of the chain that was found has its place
+abbrev pub HavePlaces : FoundContents → Type 0
+HavePlaces f = placed (start_of f.rec) (parts_found f.chain.items) ≡ f.chain.items
+
+-- the image has the contents that were found, and each part has its place
+pub record AreFound (g : Layout) (image : Image) (f : FoundContents) : Type 0 where
+  pub has : HasContents g image (contents_found f)
+  pub places : HavePlaces f
+
 -- the contents that the image was found to have, or it has none
 abbrev pub FindsContents : Layout → Image → Option FoundContents → Type 0
 FindsContents g image found = MatchOption found
     ((c : Contents) → ¬ HasContents g image c)
-    (λ f. HasContents g image (contents_found f))
+    (λ f. AreFound g image f)

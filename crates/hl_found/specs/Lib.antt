@@ -1,3 +1,12 @@
 pub mod Found
 pub mod Listing
 pub mod Slots
+pub mod Segments
+pub mod Away
+pub mod Soundness
+pub mod Staged
+pub mod Shelves
+pub mod Charges
+pub mod Directories
+pub mod Reach
+pub mod Files

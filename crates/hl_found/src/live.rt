@@ -11,18 +11,17 @@ ghost use Rattle.hl_inode.specs.declared.inode.Inode.{Inode};
 ghost use Rattle.hl_nodes.specs.Contents.{HasContents};
 ghost use Rattle.hl_nodes.specs.Live.{IsLiveAt};
 ghost use Rattle.hl_nodes.specs.Nodes.{IsInodeAt};
-ghost use Rattle.hl_nodes.specs.Pointers.{HasPointerBlock, ReachesBlock, pointer_of};
+ghost use Rattle.hl_nodes.specs.Pointers.{HasPointerBlock, ReachesBlock};
 ghost use Rattle.hl_placed.specs.Blocks.{blocks_of};
 ghost use Rattle.hl_found.specs.Found.{contents_found};
 ghost use Rattle.hl_found.specs.Listing.{HavePointers, IsContent, IsOfInode, IsOfNumber};
 ghost use Rattle.hl_found.specs.Listing.{IsTableBefore, IsPushed, LieApart, Lists};
 
 use crate::contents::FoundContents;
-use crate::newest::block_at;
-use crate::tables::is_in_log;
-use hl_addr::{Geometry, NOTHING};
+use hl_addr::Geometry;
 use hl_bytes::BlockRecord;
-use hl_inode::{Inode, decode, pointer};
+use hl_inode::{Inode, decode};
+use hl_nodes::{block_at, is_in_log, pointer_of};
 use hl_summary::{INODE, POINTERS, TABLE};
 use hl_tables::Tables;
 use std::alloc::{AllocError, Global};
@@ -32,22 +31,6 @@ use std::alloc::{AllocError, Global};
 pub struct LiveAt {
     pub block: BlockRecord,
     pub address: u32,
-}
-
-/// The pointer of an inode to its block `i`.
-#[tactic(auto, unfolding(hl_nodes::specs::Pointers::pointer_of, hl_nodes::specs::Pointers::pointer_in))]
-fn pointer_of(image: &[u8], inode: &Inode, i: u32) -> u32
-    requires within { i < 1036 }
-    requires there { ReachesBlock image.now inode.now.single }
-    ensures { result ≡ pointer_of (block_of image.now) inode.now i }
-{
-    if i < 12 {
-        inode.direct[i as usize]
-    } else if inode.single == NOTHING {
-        NOTHING
-    } else {
-        pointer(block_at(image, inode.single), i - 12)
-    }
 }
 
 /// The inode of a number at an address of the log, if there is one.

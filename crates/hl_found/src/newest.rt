@@ -1,25 +1,14 @@
 //! The newest record of an image.
 
-ghost use Rattle.std.specs.Prelude.{◌≡◌, ◌+◌, ◌*◌, ◌≤◌, ◌↔◌, length, IsTrue, IfOk};
+ghost use Rattle.std.specs.Prelude.{◌≡◌, ◌*◌, ◌≤◌, ◌↔◌, length, IsTrue, IfOk};
 ghost use Rattle.hl_bytes.specs.Buffers.{block_of};
 ghost use Rattle.hl_image.specs.Newest.{IsNewest, label_of};
 ghost use Rattle.hl_image.specs.Places.{log_end};
 
 use hl_addr::Geometry;
-use hl_bytes::BLOCK;
+use hl_nodes::block_at;
 use hl_super::{Label, Record, decode_record, newest};
 use std::alloc::{AllocError, Global};
-
-/// The bytes of a block of the image.
-#[tactic(auto, unfolding(hl_bytes::specs::Buffers::block_of))]
-pub(crate) fn block_at<'a>(image: &'a [u8], address: u32) -> &'a [u8]
-    requires { 4096 * (address + 1) ≤ length image.now }
-    ensures bytes { result.now ≡ block_of image.now address }
-    ensures size { length result.now ≡ 4096 }
-{
-    let from = BLOCK * address as usize;
-    &image[from..from + BLOCK]
-}
 
 /// The label of a site.
 pub(crate) fn label_of(geometry: &Geometry) -> Label

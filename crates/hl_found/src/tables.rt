@@ -1,32 +1,21 @@
 //! The tables of an image: what its table blocks spell, with the parts of its chain laid over it.
 
-ghost use Rattle.std.specs.Prelude.{◌≡◌, ◌+◌, ◌*◌, ◌<◌, ◌≤◌, ◌↔◌, length, All, IsTrue, IfOk};
+ghost use Rattle.std.specs.Prelude.{◌≡◌, ◌+◌, ◌*◌, ◌≤◌, length, All, IfOk};
 ghost use Rattle.std.specs.List.{fold};
 ghost use Rattle.hl_bytes.specs.Buffers.{block_of};
 ghost use Rattle.hl_addr.specs.Layout.{IsWithinLimits, table_blocks};
 ghost use Rattle.hl_image.specs.Newest.{IsNewest};
-ghost use Rattle.hl_image.specs.Places.{log_end, InLog};
+ghost use Rattle.hl_image.specs.Places.{log_end};
 ghost use Rattle.hl_tables.specs.Values.{AreTables, SameShape, fresh};
 ghost use Rattle.hl_found.specs.Found.{AreChainParts, FindsSpelled, FindsTables, MayBeLaid};
 ghost use Rattle.hl_found.specs.Found.{part_laid, parts_found, IsOfSite};
 
-use crate::newest::block_at;
-use hl_addr::{Geometry, Place};
+use hl_addr::Geometry;
 use hl_image::{ChainPart, chain_parts};
+use hl_nodes::{block_at, is_in_log};
 use hl_super::Record;
 use hl_tables::Tables;
 use std::alloc::{AllocError, Global};
-
-/// Whether the address is one of the log.
-pub(crate) fn is_in_log(geometry: &Geometry, address: u32) -> bool
-    ensures place { IsTrue result ↔ InLog geometry.now address }
-    ensures within { IsTrue result → address < log_end geometry.now }
-{
-    match geometry.class(address) {
-        Place::Log { .. } => true,
-        _ => false,
-    }
-}
 
 /// Tables of the site's shape are tables of the site: what they say of themselves.
 fn are_of_site(geometry: &Geometry, tables: &Tables)

@@ -235,6 +235,7 @@ fn an_image_has_what_its_newest_record_and_whole_units_say(rt: HostRuntime) -> R
             let live = live_blocks(rt.alloc(), &image, &site, &contents)?;
             assert_eq!(rt; live.len(), lives);
             assert!(rt; lie_apart(live.as_slice()) == apart);
+            assert!(rt; is_sound(rt.alloc(), &image, &site, &contents)? == apart);
             let next = next_tertiary(&contents);
             assert!(rt; next == 1 && slots_are_possible(&site, contents.tables.slots(), next));
         }

@@ -21,5 +21,5 @@ pub mod unit_laws;
 
 pub use counting::nodes_of;
 pub use found::{FoundBlock, FoundNode};
-pub use reading::node_at;
+pub use reading::{block_at, is_in_log, node_at, pointer_of};
 pub use rule::Rule;

@@ -19,7 +19,7 @@ use std::alloc::{AllocError, Global};
 
 /// The bytes of a block of the image.
 #[tactic(auto, unfolding(hl_bytes::specs::Buffers::block_of))]
-fn block_at<'a>(image: &'a [u8], address: u32) -> &'a [u8]
+pub fn block_at<'a>(image: &'a [u8], address: u32) -> &'a [u8]
     requires { 4096 * (address + 1) ≤ length image.now }
     ensures bytes { result.now ≡ block_of image.now address }
     ensures size { length result.now ≡ 4096 }
@@ -29,7 +29,7 @@ fn block_at<'a>(image: &'a [u8], address: u32) -> &'a [u8]
 }
 
 /// Whether the address is one of the log.
-fn is_in_log(geometry: &Geometry, address: u32) -> bool
+pub fn is_in_log(geometry: &Geometry, address: u32) -> bool
     ensures place { IsTrue result ↔ InLog geometry.now address }
     ensures within { IsTrue result → address < log_end geometry.now }
 {
@@ -53,9 +53,10 @@ fn pointer_in(image: &[u8], address: u32, i: u32) -> u32
     }
 }
 
-/// The pointer of an inode to its block `i`.
+/// The pointer of an inode to its block `i`, of the blocks 0 to 1,035. The image reaches to the
+/// inode's pointer block, if it has one.
 #[tactic(auto, unfolding(crate::specs::Pointers::pointer_of))]
-fn pointer_of(image: &[u8], inode: &Inode, i: u32) -> u32
+pub fn pointer_of(image: &[u8], inode: &Inode, i: u32) -> u32
     requires within { i < 1036 }
     requires there { ReachesBlock image.now inode.now.single }
     ensures { result ≡ pointer_of (block_of image.now) inode.now i }

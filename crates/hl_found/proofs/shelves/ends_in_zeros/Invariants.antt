@@ -1,0 +1,8 @@
+use Rattle.std.proofs.Common.{◌≡◌, ℕ, ◌/◌, ◌%◌, ◌<◌, ◌≤◌}
+use Rattle.hl_placed.specs.Blocks.{byte_of, file_block}
+use Rattle.hl_nodes.specs.Found.{node_found}
+use Rattle.hl_found.specs.Shelves.{at_hand}
+use Rattle.hl_found.proofs.shelves.ends_in_zeros.Given as goal
+
+abbrev pub invariant-each : goal.invariant-each
+invariant-each l = (j : ℕ) → l.node.size ≤ j → j < l.j → byte_of (at_hand l.staged l.shelf) (file_block (node_found l.node).content (j / 4096)) (j % 4096) ≡ 0
