@@ -1,10 +1,7 @@
 -- Where a shelf serves the files of an image, their last blocks on the disk are zero past the size.
-use Rattle.std.specs.FinMap.{get, get-insert, insert}
-use Rattle.std.proofs.Common.{◌≡◌, ◌≢◌, ◌⊎◌, inl, inr, ⊎_elim, ℕ, zero, suc, ◌+◌, ◌*◌, ◌/◌, ◌%◌, ◌<◌, ◌≤◌, Bool, true, false, cond, nat_eq, List, [], ◌∷◌, length, take, drop, get_or, refl, sym, ap, ◌∙◌, subst, arith}
-use Rattle.std.specs.Prelude.{Option, Some, None, unwrap_or}
-use Rattle.std.specs.Ordering.{nat_cmp}
-use Rattle.std.specs.Cmp.{unsigned_tied}
-use Rattle.std.proofs.lemmas.Cmp.{nat_cmp_total}
+use Rattle.std.specs.FinMap.{get}
+use Rattle.std.proofs.Common.{◌≡◌, ◌≢◌, ◌⊎◌, inl, inr, ℕ, zero, suc, ◌+◌, ◌*◌, ◌/◌, ◌%◌, ◌<◌, ◌≤◌, true, false, List, [], ◌∷◌, length, drop, get_or, refl, sym, ap, ◌∙◌, subst, arith}
+use Rattle.std.specs.Prelude.{Option, Some, unwrap_or}
 use Rattle.std.proofs.lemmas.Nat.{mod_below}
 use Rattle.std.proofs.lemmas.Bool.{cases_lt, cases_eq}
 use Rattle.std.proofs.lemmas.Bool.Decides.{nat_tests}
@@ -14,8 +11,7 @@ use Rattle.hl_media.specs.History.{Image, area}
 use Rattle.hl_addr.specs.Layout.{Layout, IsWithinLimits}
 use Rattle.hl_addr.specs.Place.{IsAt}
 use Rattle.hl_addr.specs.Slots.{slot_number}
-use Rattle.hl_addr.specs.declared.place.Place.{Place}
-use Rattle.hl_addr.specs.declared.place.Place.TheVariants.{Log, Tertiary, Nothing}
+use Rattle.hl_addr.specs.declared.place.Place.TheVariants.{Tertiary, Nothing}
 use Rattle.hl_addr.proofs.PlaceLemmas.{place_only, has_blocks}
 use Rattle.hl_tseg.specs.declared.slot.Slot.{Slot}
 use Rattle.hl_tseg.specs.declared.slot.Slot.TheVariants.{Free, Staged, Home, Spoilt}
@@ -24,17 +20,16 @@ use Rattle.hl_tables.specs.Values.{TableValues}
 use Rattle.hl_image.proofs.PartLemmas.{area_bytes}
 use Rattle.hl_inode.specs.declared.inode.Kind.{Kind}
 use Rattle.hl_inode.specs.declared.inode.Kind.TheVariants.{File}
-use Rattle.hl_inode.specs.declared.inode.Inode.{Inode}
 use Rattle.hl_placed.specs.Blocks.{Away, Block, Here, Hole, Shelf, blocks_of, byte_of, file_block}
 use Rattle.hl_placed.specs.Placed.{PlacedTree}
 use Rattle.hl_placed.proofs.Blocks.{quotient, rest}
 use Rattle.hl_paths.specs.Nodes.{FlatNode, HasTree, Nodes}
 use Rattle.hl_tree.specs.declared.node.Node.TheVariants as nodes_of
 use Rattle.hl_tseg.specs.Slots.{serial_of}
-use Rattle.hl_nodes.specs.Pointers.{InLog, pointer_of}
-use Rattle.hl_nodes.specs.Blocks.{LiesAway, StandsFor}
+use Rattle.hl_nodes.specs.Pointers.{pointer_of}
+use Rattle.hl_nodes.specs.Blocks.{StandsFor}
 use Rattle.hl_nodes.specs.Nodes.{HasNodes, IsNodeOf}
-use Rattle.hl_nodes.specs.Lines.{line_start, line_bytes, with_staged, InStagedLine, OnDisk, IsZeroFrom}
+use Rattle.hl_nodes.specs.Lines.{line_start, line_bytes, with_staged, InStagedLine, OnDisk}
 use Rattle.hl_nodes.specs.Order.{EndsFiles}
 use Rattle.hl_nodes.specs.Sound.{AreSlots}
 use Rattle.hl_nodes.specs.Files.{Serves}
@@ -113,8 +108,8 @@ module _ (g : Layout) (limits : IsWithinLimits g) (bytes : List ℕ) (shelf : Sh
       let both : Some line.serial ≡ Some serial = sym (ap serial_of held) ∙ away.holds in
       let same : line.serial ≡ serial = cc in
       let there = staged_there g image shelf slots.slots (slot_number g.volumes line.volume line.slot) line.line line.serial line.staged
-          (λ m other f. (let one = are.one_slot m (slot_number g.volumes line.volume line.slot) line.serial (ap serial_of f) (ap serial_of line.staged) in
-          let two : Staged other line.serial ≡ Staged line.line line.serial = sym f ∙ ap (slot_at slots) one ∙ line.staged in cc)) in
+      (λ m other f. (let one = are.one_slot m (slot_number g.volumes line.volume line.slot) line.serial (ap serial_of f) (ap serial_of line.staged) in
+      let two : Staged other line.serial ≡ Staged line.line line.serial = sym f ∙ ap (slot_at slots) one ∙ line.staged in cc)) in
       let low : line.position < g.k = below_k pointer line.volume line.slot line.position line.place in
       ap (λ (a : ℕ). get_or (image a) k 0) line.block_is
       ∙ sym (byte_of_area bytes (line_start g line.line) g.k line.position k low lt)

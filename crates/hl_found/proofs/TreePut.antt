@@ -1,18 +1,15 @@
 -- The tree that is put together, number by number.
 use Rattle.std.specs.FinMap.{empty, get, get-empty, get-insert, insert, len}
-use Rattle.std.proofs.Common.{◌≡◌, ◌⊎◌, inl, inr, ⊎_elim, ℕ, ◌+◌, ◌<◌, ◌≤◌, Bool, true, false, cond, List, [], ◌∷◌, length, refl, sym, ap, ◌∙◌, subst, arith}
+use Rattle.std.proofs.Common.{◌≡◌, ◌⊎◌, inl, inr, ⊎_elim, ℕ, ◌+◌, ◌<◌, ◌≤◌, Bool, true, false, cond, List, [], refl, sym, ap, ◌∙◌, subst, arith}
 use Rattle.std.specs.Prelude.{Contains, Option, Some, None, IsSome, option_map}
 use Rattle.std.specs.List.{slice_index_or}
-use Rattle.std.proofs.lemmas.List.{get_or_past}
 use Rattle.std.proofs.lemmas.Bool.{cases_lt}
-use Rattle.hl_inode.specs.declared.inode.Kind.{Kind}
-use Rattle.hl_inode.specs.declared.inode.Kind.TheVariants as kinds
 use Rattle.hl_tree.specs.declared.node.Node.{Node}
 use Rattle.hl_tree.specs.declared.node.Node.TheVariants.{Dir, File}
 use Rattle.hl_tree.specs.Names.{path_cmp}
 use Rattle.hl_tree.specs.Rules as rules
 use Rattle.hl_tree.specs.OtherContents.{node_map}
-use Rattle.hl_tree.specs.Tree.{Tree, root_alone}
+use Rattle.hl_tree.specs.Tree.{root_alone}
 use Rattle.hl_tree.proofs.Maps.{path_total}
 use Rattle.hl_tree.proofs.Moved.{Names, same, same_is}
 use Rattle.hl_tree.proofs.Room.{len-insert-le, len-root_alone}

@@ -1,16 +1,14 @@
 -- A shelf that serves the files among nodes serves their tree, and the other way round.
 use Rattle.std.proofs.Common.{◌≡◌, ℕ, List, refl, sym, ap, ◌∙◌, subst}
-use Rattle.std.specs.Prelude.{Option, Some, None, option_map, IsSome}
+use Rattle.std.specs.Prelude.{Option, Some, None, option_map}
 use Rattle.std.specs.FinMap.{get}
 use Rattle.std.specs.List.{slice_index_or}
-use Rattle.hl_inode.specs.declared.inode.Kind.{Kind}
 use Rattle.hl_inode.specs.declared.inode.Kind.TheVariants as kinds
-use Rattle.hl_tree.specs.declared.node.Node.{Node}
 use Rattle.hl_tree.specs.declared.node.Node.TheVariants.{Dir, File}
 use Rattle.hl_placed.specs.Blocks.{PlacedFile, Shelf}
 use Rattle.hl_placed.specs.Placed.{PlacedTree}
 use Rattle.hl_paths.specs.Links.{resolve}
-use Rattle.hl_paths.specs.Numbered.{NumberedNode, Directory, Leaf, Numbering, links, found_node, tree_node}
+use Rattle.hl_paths.specs.Numbered.{NumberedNode, Directory, Leaf, links, found_node, tree_node}
 use Rattle.hl_paths.specs.Nodes.{FlatNode, Nodes, HasTree, flat_node}
 use Rattle.hl_paths.proofs.Links.{none_some}
 use Rattle.hl_paths.proofs.Nodes.{is_there}
@@ -51,8 +49,7 @@ module _ (nodes : Nodes) (placed : PlacedTree) (has : HasTree nodes placed) wher
       by (Some (Leaf content)) there =
           let both : Some (flat_node (Leaf content)) ≡ Some node = sym (has.spelled number ∙ ap (option_map flat_node) there) ∙ e in
           let same : flat_node (Leaf content) ≡ node = cc in
-          let reached = has.tree.linked.reached number (is_there _ there) in
-          (
+          let reached = has.tree.linked.reached number (is_there _ there) in (
             reached.0,
             has.tree.same reached.0 ∙ ap (found_node has.numbered) reached.1 ∙ ap (option_map tree_node) there
                 ∙ ap (λ (n : FlatNode). Some (File n.content)) same,

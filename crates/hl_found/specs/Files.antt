@@ -12,7 +12,6 @@ use Rattle.hl_tree.specs.PlainValue.{Plain}
 use Rattle.hl_tree.specs.Rules as rules
 use Rattle.hl_placed.specs.Blocks.{PlacedFile, Shelf, plain_bytes}
 use Rattle.hl_placed.specs.Placed.{PlacedTree, plain}
-use Rattle.hl_paths.specs.Nodes.{FlatNode}
 use Rattle.hl_nodes.specs.Contents.{Contents}
 use Rattle.hl_nodes.specs.Order.{IsInOrder}
 use Rattle.hl_nodes.specs.Files.{HasFiles, Serves, shelf_with}

@@ -165,7 +165,9 @@ fn put_tables(alloc: Global, image: &mut [u8], site: &Geometry) -> Result<(), Al
             tables.set_used(segment, true);
         }
         tables.slots_mut().set(0, Slot::Home { serial: 1 });
-        tables.slots_mut().set(1, Slot::Staged { line: 0, serial: 2 });
+        tables
+            .slots_mut()
+            .set(1, Slot::Staged { line: 0, serial: 2 });
     }
     for i in 0..tables.blocks() {
         if i < 4 && image.len() == BYTES {
@@ -254,7 +256,14 @@ fn an_image_that_breaks_a_rule_has_no_files(rt: HostRuntime) -> Result<(), Fail>
         // The shelf lacks a segment.
         (PLAIN, 3, none),
         // The rules 1 to 15, one after the other.
-        (Variant { table: 1_088, ..PLAIN }, 1, none),
+        (
+            Variant {
+                table: 1_088,
+                ..PLAIN
+            },
+            1,
+            none,
+        ),
         (field(101, 0, 2), 1, none),
         (field(100, 0, 115), 1, none),
         (field(115, 8, 7), 1, none),
@@ -270,7 +279,14 @@ fn an_image_that_breaks_a_rule_has_no_files(rt: HostRuntime) -> Result<(), Fail>
         (Variant { next: 2, ..PLAIN }, 1, none),
         (field(1_088, 8, 9), 1, none),
         (field(113, 10, 1), 1, none),
-        (Variant { blocks: 52, ..PLAIN }, 1, none),
+        (
+            Variant {
+                blocks: 52,
+                ..PLAIN
+            },
+            1,
+            none,
+        ),
         // Another label.
         (field(0, 8, 128), 1, none),
     ] {

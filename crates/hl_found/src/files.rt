@@ -199,7 +199,14 @@ fn tree_in(
     if !serves_nodes(staged.as_slice(), shelf, nodes) {
         return Ok(None);
     }
-    let tree = tree_of(alloc, geometry, staged.as_slice(), shelf, nodes, reached.as_slice())?;
+    let tree = tree_of(
+        alloc,
+        geometry,
+        staged.as_slice(),
+        shelf,
+        nodes,
+        reached.as_slice(),
+    )?;
     Ok(Some(tree))
 }
 
