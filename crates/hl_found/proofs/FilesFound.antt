@@ -10,6 +10,7 @@ use Rattle.hl_super.specs.Labels.{Spells}
 use Rattle.hl_image.specs.Newest.{label_of}
 use Rattle.hl_dir.specs.declared.entry.Entry.{Entry}
 use Rattle.hl_dir.proofs.DirLemmas.{spelled_once}
+use Rattle.hl_tree.specs.PlainValue.{Plain}
 use Rattle.hl_tree.specs.Rules as rules
 use Rattle.hl_placed.specs.Blocks.{PlacedFile, Shelf, no_shelf, plain_bytes}
 use Rattle.hl_placed.specs.Placed.{PlacedTree, plain}
@@ -29,7 +30,7 @@ use Rattle.hl_nodes.proofs.Frame.{limits_of}
 use Rattle.hl_nodes.proofs.OrderKeeps.{order_none}
 use Rattle.hl_nodes.proofs.OrderMade.{order_made}
 use Rattle.hl_found.specs.Directories.{HaveEntries}
-use Rattle.hl_found.specs.Files.{HasTreeOf, ServesNodes}
+use Rattle.hl_found.specs.Files.{FindsFiles, FindsTree, HasTreeOf, ServesNodes}
 use Rattle.hl_nodes.specs.declared.found.FoundNode.{FoundNode}
 use Rattle.hl_found.proofs.TreeServed.{tree_served, nodes_served}
 use Rattle.hl_found.proofs.LastBlocks.{ends_files}
@@ -100,6 +101,11 @@ module _ (blocks : ℕ) (g : Layout) (image : Image) (shelf : Shelf) (files : ru
       serves = subst (Serves (shelf_with g image shelf c)) placed_is (subst (λ (d : Contents). Serves (shelf_with g image shelf d) x.placed) own_is x.serves);
       are = ap (plain (shelf_with g image shelf c)) (sym placed_is) ∙ ap (λ (d : Contents). plain (shelf_with g image shelf d) x.placed) (sym own_is) ∙ x.are;
     }
+
+-- what was found as the tree of the contents is the image's files
+pub files_found : (blocks : ℕ) (g : Layout) (image : Image) (c : Contents) (shelf : Shelf) → Spells blocks (image 0) (label_of g) → HasContents g image c → (found : Option Plain) → FindsTree g image c shelf found → FindsFiles blocks g image shelf found
+files_found blocks g image c shelf label has None none = λ files x. none files (files_tree blocks g image shelf files x c has)
+files_found blocks g image c shelf label has (Some tree) tree_is = files_made blocks g image c shelf tree.tree label tree_is
 
 -- contents whose parts were found in order have a tree
 module _ (g : Layout) (bytes : List ℕ) (c : Contents) (found : List (Option FoundNode)) (nodes : c.nodes ≡ nodes_found found) (shelf own : Shelf) (own_is : own ≡ shelf_with g (block_of bytes) shelf c)

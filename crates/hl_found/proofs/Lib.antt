@@ -18,3 +18,4 @@ pub mod TreeServed
 pub mod LastBlocks
 pub mod TreePut
 pub mod FilesFound
+pub mod FewBlocks

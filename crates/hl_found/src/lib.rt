@@ -7,9 +7,12 @@
 #![tactic(auto)]
 
 mod away;
+#[cfg(test)]
+mod broken;
 mod charges;
 mod contents;
 mod directories;
+mod files;
 mod live;
 mod newest;
 mod reach;
@@ -26,6 +29,7 @@ pub use away::aways_are_apart;
 pub use charges::charge_is_within;
 pub use contents::{FoundContents, contents_of};
 pub use directories::{FoundUse, uses_of};
+pub use files::files_of;
 pub use live::{LiveAt, lie_apart, live_blocks};
 pub use reach::{Reached, places_of};
 pub use segments::blocks_are_in_place;

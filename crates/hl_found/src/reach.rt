@@ -32,7 +32,7 @@ fn is_in_use(uses: &[Option<FoundUse>], number: u32) -> bool
 }
 
 /// The place of a number among those that are reached.
-fn place_of(reached: &[Reached], number: usize) -> Option<usize>
+pub(crate) fn place_of(reached: &[Reached], number: usize) -> Option<usize>
     ensures { MatchOption result
         ((i : ℕ) (d : Reached) → i < length reached.now → (slice_index_or reached.now i d).number ≡ number → ⊥)
         (λ i. (i < length reached.now) × ((d : Reached) → (slice_index_or reached.now i d).number ≡ number)) }
