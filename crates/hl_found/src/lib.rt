@@ -7,8 +7,6 @@
 #![tactic(auto)]
 
 mod away;
-#[cfg(test)]
-mod broken;
 mod charges;
 mod contents;
 mod directories;
