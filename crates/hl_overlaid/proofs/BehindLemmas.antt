@@ -60,13 +60,13 @@ block_laid-inodes : (s t : TableValues) (a : ℕ) (r : BlockRecord) → s.inodes
 block_laid-inodes s t a r same true = ap (λ l. set l r.ino a) same
 block_laid-inodes s t a r same false = same
 
-placed-inodes : (s t : TableValues) (rs : List BlockRecord) (plan : List ℕ) → s.inodes ≡ t.inodes → (blocks_placed s rs plan).inodes ≡ (blocks_placed t rs plan).inodes
+pub placed-inodes : (s t : TableValues) (rs : List BlockRecord) (plan : List ℕ) → s.inodes ≡ t.inodes → (blocks_placed s rs plan).inodes ≡ (blocks_placed t rs plan).inodes
 placed-inodes s t [] plan same = same
 placed-inodes s t (r ∷ rs) [] same = same
 placed-inodes s t (r ∷ rs) (a ∷ plan) same = placed-inodes (block_laid s a r) (block_laid t a r) rs plan (block_laid-inodes s t a r same (r.index == 4294967295))
 
 -- notes say nothing of inodes
-notes-inodes : (t : TableValues) (notes : List TableRecord) → All IsOfSlots notes → (fold changed t notes).inodes ≡ t.inodes
+pub notes-inodes : (t : TableValues) (notes : List TableRecord) → All IsOfSlots notes → (fold changed t notes).inodes ≡ t.inodes
 notes-inodes t notes of = same_number_lists (fold changed t notes).inodes t.inodes (changes-length t notes) (λ k lt. changes-other t notes k (λ r i kind same. not_freeing notes of r i kind))
 
 notes-k : (t : TableValues) (notes : List TableRecord) → (fold changed t notes).k ≡ t.k

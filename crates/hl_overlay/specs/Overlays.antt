@@ -105,6 +105,13 @@ IsBlockNow (Some (now.Kept addr)) holding = holding ≡ Some (Remains addr)
 IsBlockNow (Some (now.Moved addr serial position)) holding = holding ≡ Some (GoesAway addr serial position)
 IsBlockNow (Some (now.Bytes bytes)) holding = holding ≡ Some (Fresh bytes.now)
 
+-- the bytes that are held for a block are a whole block
+abbrev pub IsWholeBlock : BlockNow → Type 0
+IsWholeBlock now.Hole = Unit {0}
+IsWholeBlock (now.Kept addr) = Unit {0}
+IsWholeBlock (now.Moved addr serial position) = Unit {0}
+IsWholeBlock (now.Bytes bytes) = length bytes.now ≡ 4096
+
 -- one block of a drafted node has something else, and all others have what they had
 pub record PutsBlock (old new : OverlayValue) (ino i : ℕ) (now : Holding) : Type 0 where
   pub here : holding new ino i ≡ Some now

@@ -87,6 +87,7 @@ impl Drafts {
     pub fn others(&self) -> u32
         ensures value { result ≡ others_of self.now }
         ensures most { result ≤ 2 * length self.now.places }
+        ensures whole { IsDraftTable self.now }
     {
         self.others
     }

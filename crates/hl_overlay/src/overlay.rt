@@ -65,7 +65,7 @@ fn copied_block(bytes: &[u8]) -> Block
 }
 
 impl Overlay {
-    ghost use Rattle.hl_overlay.specs.Overlays.{IsEmpty, IsBlockNow, IsOverlay, IsWholeOverlay, KeepsDrafts, PutsBlock, WritesOver, holding, holding_of};
+    ghost use Rattle.hl_overlay.specs.Overlays.{IsEmpty, IsBlockNow, IsOverlay, IsWholeBlock, IsWholeOverlay, KeepsDrafts, PutsBlock, WritesOver, holding, holding_of};
     ghost use Rattle.hl_overlay.specs.Overlays.Holding.{Fresh, GoesAway, Zeros};
 
     /// An overlay for the numbers from 0 on, none of them drafted. A site has at most 2,048.
@@ -131,6 +131,7 @@ impl Overlay {
     pub fn others(&self) -> u32
         ensures value { result ≡ others_of self.now.drafts }
         ensures most { result ≤ 2 * length self.now.drafts.places }
+        ensures whole { IsWholeOverlay self.now }
     {
         self.drafts.others()
     }
@@ -147,7 +148,8 @@ impl Overlay {
     pub fn block(&self, ino: u32, i: u32) -> Option<BlockNow<'_>>
         requires number { ino < length self.now.drafts.places }
         requires within { i < 1036 }
-        ensures { IsBlockNow result (holding self.now ino i) }
+        ensures now { IsBlockNow result (holding self.now ino i) }
+        ensures size { IfSome result IsWholeBlock }
     {
         match self.drafts.get(ino)?.pointers.get(i) {
             Pointer::Hole => Some(BlockNow::Hole),

@@ -12,8 +12,8 @@ index-requires c =
     (pointer_found c.self.inside.drafts c.args.ino c.args.i c.in_ok-get.field-0.now c.in_ok-get.ensures.value ∙ ap Some (sym c.in-New.ensures.value)) in
     search rules
 
-pub returns-in-New : goal.returns-in-New
-returns-in-New c =
+pub returns-in-New-clause-now : goal.returns-in-New-clause-now
+returns-in-New-clause-now c =
     let low : c.args.ino < length c.self.inside.drafts.places = subst (λ (x : OverlayValue). c.args.ino < length x.drafts.places) (sym c.self.view_is) c.requires.number in
     let at : where_in c.self.inside.drafts c.args.ino c.args.i ≡ Some (New c.in-New.n) = pointer_found c.self.inside.drafts c.args.ino c.args.i c.in_ok-get.field-0.now c.in_ok-get.ensures.value ∙ ap Some (sym c.in-New.ensures.value) in
     let lt = named_within (length c.self.inside.drafts.places) (where_in c.self.inside.drafts) _ c.self.invariant.named c.args.ino c.args.i c.in-New.n low at in
