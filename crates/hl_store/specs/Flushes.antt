@@ -1,0 +1,97 @@
+-- A flush: the nodes of the last unit or those that the store has now, at every moment.
+use Rattle.std.specs.Prelude.{◌≡◌, ◌⊎◌, ℕ, ◌<◌, ◌≤◌, List, drop, length, Option, Some}
+use Rattle.std.specs.FinMap.{get}
+use Rattle.hl_media.specs.History.{History, Image, MachineState}
+use Rattle.hl_media.specs.Moments.{Ends}
+use Rattle.hl_inode.specs.declared.inode.Kind.TheVariants.{Dir}
+use Rattle.hl_log.specs.Cut.{HasClean}
+use Rattle.hl_log.specs.Logs.{Failed, Succeeded}
+use Rattle.hl_log.specs.Rest.{Keeps, StopLeaves}
+use Rattle.hl_log.specs.Units.{Numbered}
+use Rattle.hl_log.specs.declared.unit.UnitAnswer.{UnitAnswer}
+use Rattle.hl_log.specs.declared.unit.UnitAnswer.TheVariants as answer
+use Rattle.hl_paths.specs.Nodes.{FlatNode}
+use Rattle.hl_nodes.specs.Contents.{Contents}
+use Rattle.hl_nodes.specs.Listing.{HoldsListed}
+use Rattle.hl_nodes.specs.Sound.{AwayOnce, HasSound}
+use Rattle.hl_overlay.specs.DraftTables.{HasNone}
+use Rattle.hl_overlay.specs.Overlays.{unit_blocks}
+use Rattle.hl_overlaid.specs.Units.{unit_changes}
+use Rattle.hl_store.specs.Values.{IsTidy, StoreValue, layout, nodes_of}
+use Rattle.hl_store.specs.Lying.{LiesOver}
+
+module _ {M : Type 0} where
+  -- The nodes that the store has now may be made last: the serials of the unit have room in 64 bits, the root is a directory,
+  -- and no block of a tertiary segment is a block of two nodes.
+  pub record MayLast (v : StoreValue M) (c : Contents) : Type 0 where
+    pub serials : Numbered (layout v) v.log.at v.clean (unit_blocks v.overlay) (length (unit_changes v.overlay v.notes))
+    pub root : FlatNode
+    pub root_is : get (nodes_of v c) 1 ≡ Some root
+    pub root_dir : root.kind ≡ Dir
+    pub away_once : AwayOnce (nodes_of v c)
+
+  -- the image has the contents, and they are sound and listed
+  pub record Holds (v : StoreValue M) (c : Contents) (image : Image) : Type 0 where
+    pub sound : HasSound (layout v) image c
+    pub listed : HoldsListed (layout v) image c
+
+  -- the image has the nodes that the store has now, behind the same record
+  pub record HoldsNow (v : StoreValue M) (c : Contents) (image : Image) : Type 0 where
+    pub contents : Contents
+    pub holds : Holds v contents image
+    pub rec : contents.rec ≡ c.rec
+    pub nodes : contents.nodes ≡ nodes_of v c
+
+  abbrev pub HoldsEither : StoreValue M → Contents → Image → Type 0
+  HoldsEither v c image = Holds v c image ⊎ HoldsNow v c image
+
+  -- at each moment whatever a stop leaves, unless by chance, has the contents of the last unit or the nodes that the store
+  -- has now, and no block differs but those that are free for the log
+  abbrev pub Flushes : StoreValue M → MachineState → MachineState → Type 0
+  Flushes v first s = (c : Contents) → LiesOver v c first → MayLast v c
+      → StopLeaves (layout v) v.log.at (λ image. HoldsEither v c image × Keeps (layout v) v.log.at v.clean first image) s
+
+  -- the store lies over contents with the nodes that it had, behind the same record
+  pub record HasFlushed (old new : StoreValue M) (c : Contents) (s : MachineState) : Type 0 where
+    pub contents : Contents
+    pub over : LiesOver new contents s
+    pub rec : contents.rec ≡ c.rec
+    pub nodes : contents.nodes ≡ nodes_of old c
+
+  abbrev pub FlushesAll : StoreValue M → StoreValue M → MachineState → MachineState → Type 0
+  FlushesAll old new first s = (c : Contents) → LiesOver old c first → MayLast old c → HasFlushed old new c s
+
+  -- a unit outside of a pass would find fewer than six clean segments, or too few for its parts
+  abbrev pub IsShort : StoreValue M → Type 0
+  IsShort v = (length v.clean < 6)
+      ⊎ (¬ HasClean (layout v) v.log.at.head v.clean (unit_blocks v.overlay) (length (unit_changes v.overlay v.notes)))
+
+  -- The unit was written, with so many of the clean segments: nothing is drafted or noted, and no call failed.
+  pub record IsFlushed (history : M → Option History) (faults write_faults : M → ℕ) (old new : StoreValue M) (used : ℕ) : Type 0 where
+    pub within : used ≤ length old.clean
+    pub clean : new.clean ≡ drop used old.clean
+    pub tidy : IsTidy new
+    pub none : HasNone new.overlay.drafts
+    pub uses : new.uses ≡ old.uses
+    pub in_use : new.tally.in_use ≡ old.tally.in_use
+    pub charge : new.tally.charge ≡ old.tally.charge
+    pub lines : new.lines ≡ old.lines
+    pub slots : new.tables.slots ≡ old.tables.slots
+    pub serial : new.tseg_serial ≡ old.tseg_serial
+    pub succeeded : Succeeded history faults write_faults old.log new.log
+    pub over : Ends (history old.log.machine) (history new.log.machine) (FlushesAll old new)
+
+  -- nothing but the machine changed, and the room for new blocks, which was given up
+  abbrev pub KeepsButRoom : StoreValue M → StoreValue M → Type 0
+  KeepsButRoom old new = new ≡ record old { log = new.log; overlay = record old.overlay { room = 0 } }
+
+  -- How a flush ends. Where nothing is dirty it does nothing. The log is full exactly where fewer than six segments are clean
+  -- or too few for the unit, and nothing was written then.
+  abbrev pub FlushEnds : (M → Option History) → (M → ℕ) → (M → ℕ) → StoreValue M → StoreValue M → UnitAnswer → Type 0
+  FlushEnds history faults write_faults old new (answer.Written used) =
+      (IsTidy old × (new ≡ old) × (used ≡ 0))
+      ⊎ ((¬ IsTidy old) × (¬ IsShort old) × IsFlushed history faults write_faults old new used)
+  FlushEnds history faults write_faults old new answer.LogFull = (¬ IsTidy old) × IsShort old × (new ≡ old)
+  FlushEnds history faults write_faults old new answer.DiskFault = (¬ IsTidy old) × (¬ IsShort old)
+      × Failed faults write_faults old.log new.log × KeepsButRoom old new
+  FlushEnds history faults write_faults old new answer.Memory = (¬ IsTidy old) × (new ≡ old)

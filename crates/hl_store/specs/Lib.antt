@@ -1,0 +1,11 @@
+pub mod Values
+pub mod Shapes
+pub mod Numbers
+pub mod Footings
+pub mod Opening
+pub mod Lying
+pub mod Finding
+pub mod Seats
+pub mod Reading
+pub mod Changes
+pub mod Flushes

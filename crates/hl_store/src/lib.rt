@@ -1,0 +1,25 @@
+//! The nodes of a site: it gives a node's block wherever it lies, holds what was changed since the last unit, and makes that
+//! last by one unit of the log.
+//!
+//! `Store::node`, `block` and `place` find what the nodes have now. `prepare` brings a node to where it can be changed;
+//! from then on `put`, `set_away`, `set_node` and `free` take no memory and can't fail. `flush` makes the nodes those of
+//! every image that a stop may leave, and `release` lets go what is only kept to be read again.
+#![tactic(auto)]
+
+mod answers;
+mod changing;
+mod counts;
+mod flushing;
+mod footing;
+mod in_use;
+mod live;
+mod reading;
+mod seats;
+mod store;
+
+pub use answers::{Found, Node, NodeFound, Placed, Prepared};
+pub use flushing::CLEAN_MIN;
+pub use store::{Store, StoreParts};
+
+#[cfg(test)]
+mod tests;
