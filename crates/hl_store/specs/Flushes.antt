@@ -61,10 +61,13 @@ module _ {M : Type 0} where
   abbrev pub FlushesAll : StoreValue M → StoreValue M → MachineState → MachineState → Type 0
   FlushesAll old new first s = (c : Contents) → LiesOver old c first → MayLast old c → HasFlushed old new c s
 
+  -- there are clean segments enough for the parts of the next unit
+  abbrev pub HasUnitRoom : StoreValue M → Type 0
+  HasUnitRoom v = HasClean (layout v) v.log.at.head v.clean (unit_blocks v.overlay) (length (unit_changes v.overlay v.notes))
+
   -- a unit outside of a pass would find fewer than six clean segments, or too few for its parts
   abbrev pub IsShort : StoreValue M → Type 0
-  IsShort v = (length v.clean < 6)
-      ⊎ (¬ HasClean (layout v) v.log.at.head v.clean (unit_blocks v.overlay) (length (unit_changes v.overlay v.notes)))
+  IsShort v = (length v.clean < 6) ⊎ (¬ HasUnitRoom v)
 
   -- The unit was written, with so many of the clean segments: nothing is drafted or noted, and no call failed.
   pub record IsFlushed (history : M → Option History) (faults write_faults : M → ℕ) (old new : StoreValue M) (used : ℕ) : Type 0 where
@@ -84,6 +87,14 @@ module _ {M : Type 0} where
   -- nothing but the machine changed, and the room for new blocks, which was given up
   abbrev pub KeepsButRoom : StoreValue M → StoreValue M → Type 0
   KeepsButRoom old new = new ≡ record old { log = new.log; overlay = record old.overlay { room = 0 } }
+
+  -- How the writing of a unit ends.
+  abbrev pub WriteEnds : (M → Option History) → (M → ℕ) → (M → ℕ) → StoreValue M → StoreValue M → UnitAnswer → Type 0
+  WriteEnds history faults write_faults old new (answer.Written used) = HasUnitRoom old × IsFlushed history faults write_faults old new used
+  WriteEnds history faults write_faults old new answer.LogFull = (¬ HasUnitRoom old) × (new ≡ old)
+  WriteEnds history faults write_faults old new answer.DiskFault = HasUnitRoom old
+      × Failed faults write_faults old.log new.log × KeepsButRoom old new
+  WriteEnds history faults write_faults old new answer.Memory = ⊥
 
   -- How a flush ends. Where nothing is dirty it does nothing. The log is full exactly where fewer than six segments are clean
   -- or too few for the unit, and nothing was written then.

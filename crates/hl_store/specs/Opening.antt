@@ -27,10 +27,13 @@ pub record AreParts {M : Type 0} (log : LogValue M) (parts : StoreParts) : Type 
   pub clean : AreClean log.geometry log.at.head.seg parts.clean.items
   pub few : length parts.clean.items < 2 ^ 32
 
--- the numbers that the tables have an inode for, from 1 on, are in use
-pub record AreInUse (t : TableValues) (flags : List Bool) : Type 0 where
+-- the numbers from 1 up to one that the tables have an inode for are in use
+pub record AreInUseTo (end : ℕ) (t : TableValues) (flags : List Bool) : Type 0 where
   pub count : length flags ≡ length t.inodes
-  pub are : (ino : ℕ) → 1 ≤ ino → ino < length t.inodes → slice_index_or flags ino true ≡ not (slice_index t.inodes ino == 4294967295)
+  pub are : (ino : ℕ) → 1 ≤ ino → ino < end → slice_index_or flags ino true ≡ not (slice_index t.inodes ino == 4294967295)
+
+abbrev pub AreInUse : TableValues → List Bool → Type 0
+AreInUse t flags = AreInUseTo (length t.inodes) t flags
 
 -- the store of these parts, with an overlay and numbers in use
 abbrev pub store_of : {M : Type 0} → LogValue M → StoreParts → OverlayValue → List Bool → StoreValue M

@@ -1,10 +1,15 @@
 //! Making the nodes that a store has now those of every image.
 
-ghost use Rattle.std.specs.Prelude.{◌≡◌, ◌+◌, ◌<◌, ◌≤◌, IfOk, OnOk, length};
+ghost use Rattle.std.specs.Prelude.{◌≡◌, ◌<◌, ◌≤◌, ◌↔◌, All, IfOk, IsTrue, OnErr, if◌then◌else◌, length};
 ghost use Rattle.std.specs.List.{fold};
+ghost use Rattle.hl_tables.specs.Laying.{HasInode, block_laid, changed};
+ghost use Rattle.hl_tables.specs.Values.{SameShape};
+ghost use Rattle.hl_nodes.specs.Units.{blocks_placed};
+ghost use Rattle.hl_store.specs.Writing.{HasInodeOf, records_of};
 ghost use Rattle.hl_media.specs.Moments.{Runs};
 ghost use Rattle.hl_log.specs.Rest.{SaysNothing};
-ghost use Rattle.hl_overlay.specs.DraftTables.{freed_of};
+ghost use Rattle.hl_overlay.specs.Drafting.{is_freed};
+ghost use Rattle.hl_overlay.specs.DraftTables.{freed_of, freed_record};
 ghost use Rattle.hl_overlaid.specs.Units.{unit_changes};
 
 use crate::store::Store;
@@ -20,31 +25,59 @@ use std::alloc::{AllocError, Global};
 /// A unit outside of a pass begins with at least so many clean segments.
 pub const CLEAN_MIN: usize = 6;
 
-/// Says where the inodes of a unit's blocks lie, whose addresses these are.
-fn lay_inodes(tables: &mut Tables, plan: &[u32], unit: &Unit)
+/// Says where the inode lies that a block at an address is, if it is one.
+fn lay_block(tables: &mut Tables, addr: u32, named: &BlockRecord)
+    requires { HasInode tables.old named.now }
+    ensures value { tables.new ≡ block_laid tables.old addr named.now }
+    ensures shape { SameShape tables.old tables.new }
 {
-    'blocks: for (block, addr) in unit.blocks.items().iter().zip(plan) {
-        if block.0.index == INODE {
-            tables.set_inode(block.0.ino, *addr);
-        }
+    if named.index == INODE {
+        tables.set_inode(named.ino, addr);
+    }
+}
+
+/// Says that the number of a draft lies nowhere, if it is freed.
+fn lay_draft(tables: &mut Tables, draft: &NodeDraft)
+    requires { draft.now.ino < length tables.old.inodes }
+    ensures value { let freed = changed tables.old (freed_record draft.now) in
+        tables.new ≡ (if is_freed draft.now then freed else tables.old) }
+    ensures shape { SameShape tables.old tables.new }
+{
+    if draft.is_freed() {
+        tables.set_inode(draft.ino, NOTHING);
+    }
+}
+
+/// Says where the inodes of a unit's blocks lie, of which each has its address in the plan.
+fn lay_inodes(tables: &mut Tables, plan: &[u32], unit: &Unit)
+    requires plan { length plan.now ≡ length unit.now.blocks }
+    requires inodes { All (HasInodeOf tables.old) unit.now.blocks }
+    ensures value { tables.new ≡ blocks_placed tables.old (records_of unit.now.blocks) plan.now }
+    ensures shape { SameShape tables.old tables.new }
+{
+    'inodes: for (n, block) in unit.blocks.items().iter().enumerate() {
+        lay_block(tables, plan[n], &block.0);
     }
 }
 
 /// Says that the numbers lie nowhere that the drafts free.
 fn lay_freed(tables: &mut Tables, drafts: &[NodeDraft])
+    requires { All (λ d. d.ino < length tables.old.inodes) drafts.now }
+    ensures value { tables.new ≡ fold changed tables.old (freed_of drafts.now) }
+    ensures shape { SameShape tables.old tables.new }
 {
     'freed: for draft in drafts {
-        if draft.is_freed() {
-            tables.set_inode(draft.ino, NOTHING);
-        }
+        lay_draft(tables, draft);
     }
 }
 
 impl<M: Machine> Store<M> {
-    ghost use Rattle.hl_store.specs.Flushes.{FlushEnds, Flushes};
+    ghost use Rattle.hl_store.specs.Flushes.{FlushEnds, Flushes, WriteEnds};
+    ghost use Rattle.hl_store.specs.Values.{IsTidy};
 
     /// Whether the next unit would have anything.
     fn is_dirty(&self) -> bool
+        ensures { IsTrue result ↔ ¬ IsTidy self.now }
     {
         self.dirty() != 0 || !self.notes.as_slice().is_empty()
     }
@@ -61,6 +94,19 @@ impl<M: Machine> Store<M> {
 
     /// Writes the unit of what is dirty.
     fn write(&mut self, alloc: Global) -> Result<UnitAnswer, AllocError>
+        ensures crash { Runs (M.history self.old.log.machine) (M.history self.new.log.machine)
+            (Flushes self.old) }
+        ensures silent { Runs (M.history self.old.log.machine)
+            (M.history self.new.log.machine) SaysNothing }
+        ensures ends { IfOk result (WriteEnds M.history M.faults M.write_faults self.old self.new) }
+        ensures err { OnErr result (self.new ≡ self.old) }
+        ensures geometry { self.new.log.geometry ≡ self.old.log.geometry }
+        ensures blocks { M.blocks self.new.log.machine ≡ M.blocks self.old.log.machine }
+        ensures faults { M.faults self.old.log.machine ≤ M.faults self.new.log.machine }
+        ensures write_faults { M.write_faults self.old.log.machine
+            ≤ M.write_faults self.new.log.machine }
+        ensures say_faults { M.say_faults self.new.log.machine
+            ≡ M.say_faults self.old.log.machine }
     {
         let changes = self.changes(alloc)?;
         if changes.as_slice().len() > u32::MAX as usize {

@@ -93,7 +93,7 @@ impl<M: Machine> Store<M> {
     ghost use Rattle.hl_media.specs.Causes.{HasCause};
     ghost use Rattle.hl_log.specs.Logs.{RestStays};
     ghost use Rattle.hl_store.specs.Values.{dirty_of, layout};
-    ghost use Rattle.hl_store.specs.Shapes.{IsNumber};
+    ghost use Rattle.hl_store.specs.Shapes.{IsShaped};
     ghost use Rattle.hl_store.specs.Numbers.{AreAllUsed, IsLowestFree};
     ghost use Rattle.hl_store.specs.Finding.{on_machine};
     ghost use Rattle.hl_media.specs.History.{MachineState};
@@ -232,7 +232,8 @@ impl<M: Machine> Store<M> {
 
     /// The clean segments, in the order in which they are taken.
     pub(crate) fn clean(&self) -> &[u32]
-        ensures { result.now ≡ self.now.clean }
+        ensures value { result.now ≡ self.now.clean }
+        ensures shape { IsShaped self.now }
     {
         &self.clean.as_slice()[self.taken..]
     }
