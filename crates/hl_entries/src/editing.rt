@@ -37,8 +37,17 @@ fn close(bytes: &mut Vec<u8>, at: usize, end: usize)
     bytes.truncate(len - (end - at));
 }
 
+/// Writes the number of the entry that begins at `at`.
+fn put_number(bytes: &mut Vec<u8>, at: usize, ino: u32)
+    requires { at + 4 ≤ length bytes.old.items }
+    ensures whole { bytes.new.items ≡ written bytes.old.items at (le32 ino) }
+    ensures len { length bytes.new.items ≡ length bytes.old.items }
+{
+    put_u32(bytes.as_mut_slice(), at, ino);
+}
+
 /// Writes the bytes of an entry from `at` on.
-fn put_entry(bytes: &mut [u8], at: usize, name: &[u8], ino: u32)
+fn put_fields(bytes: &mut [u8], at: usize, name: &[u8], ino: u32)
     requires within { at + (5 + length name.now) ≤ length bytes.old }
     requires short { length name.now ≤ 255 }
     ensures { bytes.new ≡ written bytes.old at (entry_bytes (record { ino = ino; name = name.now })) }
@@ -46,6 +55,17 @@ fn put_entry(bytes: &mut [u8], at: usize, name: &[u8], ino: u32)
     put_u32(bytes, at, ino);
     put_bytes(bytes, at + 4, &[name.len() as u8]);
     put_bytes(bytes, at + 5, name);
+}
+
+/// Writes an entry from `at` on.
+fn put_entry(bytes: &mut Vec<u8>, at: usize, name: &[u8], ino: u32)
+    requires within { at + (5 + length name.now) ≤ length bytes.old.items }
+    requires short { length name.now ≤ 255 }
+    ensures whole { bytes.new.items ≡
+        written bytes.old.items at (entry_bytes (record { ino = ino; name = name.now })) }
+    ensures len { length bytes.new.items ≡ length bytes.old.items }
+{
+    put_fields(bytes.as_mut_slice(), at, name, ino);
 }
 
 /// Links a number from a name: by a new entry in its place in the order, or by the name's own entry.
@@ -62,12 +82,12 @@ pub fn insert(bytes: &mut Vec<u8>, name: &[u8], ino: u32) -> Result<usize, Alloc
 {
     match search(bytes.as_slice(), name) {
         Ok(place) => {
-            put_u32(bytes.as_mut_slice(), place.at, ino);
+            put_number(bytes, place.at, ino);
             Ok(place.at)
         }
         Err(at) => {
             open(bytes, at, 5 + name.len())?;
-            put_entry(bytes.as_mut_slice(), at, name, ino);
+            put_entry(bytes, at, name, ino);
             Ok(at)
         }
     }
@@ -84,8 +104,10 @@ pub fn replace(bytes: &mut Vec<u8>, name: &[u8], ino: u32) -> Option<usize>
     ensures len { length bytes.new.items ≡ length bytes.old.items }
     ensures none { IfNone result (bytes.new.items ≡ bytes.old.items) }
 {
-    let place = search(bytes.as_slice(), name).ok()?;
-    put_u32(bytes.as_mut_slice(), place.at, ino);
+    let Ok(place) = search(bytes.as_slice(), name) else {
+        return None;
+    };
+    put_number(bytes, place.at, ino);
     Some(place.at)
 }
 
@@ -99,7 +121,9 @@ pub fn remove(bytes: &mut Vec<u8>, name: &[u8]) -> Option<usize>
         (length bytes.new.items + (5 + length name.now) ≡ length bytes.old.items) }
     ensures none { IfNone result (bytes.new.items ≡ bytes.old.items) }
 {
-    let place = search(bytes.as_slice(), name).ok()?;
+    let Ok(place) = search(bytes.as_slice(), name) else {
+        return None;
+    };
     close(bytes, place.at, place.at + 5 + name.len());
     Some(place.at)
 }
