@@ -22,27 +22,27 @@ module _ (bytes name : List ℕ) (es : List Entry) (spells : Spells bytes es) wh
     named : IsName name
     named =
         let r = found.reached in
-        let are : AreEntries (r.passed ++ entry name place.ino ∷ found.behind) = subst AreEntries r.split spells.value in
+        let are : AreEntries (r.passed ++ entry name place.ino ∷ found.behind) = subst AreEntries r.parts.split spells.value in
         one_of (λ e. IsName e.name) r.passed (entry name place.ino) found.behind (each_name (r.passed ++ entry name place.ino ∷ found.behind) are.1.0)
 
     pub Spells-renumbered : (new : List ℕ) (ino : ℕ) → ino < 2 ^ 32 → new ≡ written bytes place.at (le32 ino) → Spells new (with_entry name ino es)
     Spells-renumbered new ino fits is =
         let r = found.reached in
-        let here = spelled r.passed (entry name place.ino ∷ found.behind) r.split in
+        let here = spelled r.passed (entry name place.ino ∷ found.behind) r.parts.split in
         record {
           value = (AreWith-with_entry name ino es spells.value named fits).entries;
-          spelled = renumbered bytes r.passed found.behind (entry name place.ino) place.at here r.start new ino is
-              ∙ ap dir_bytes (sym (ap (with_entry name ino) r.split ∙ with_found name ino r.passed found.behind place.ino r.before));
+          spelled = renumbered bytes r.passed found.behind (entry name place.ino) place.at here r.parts.start new ino is
+              ∙ ap dir_bytes (sym (ap (with_entry name ino) r.parts.split ∙ with_found name ino r.passed found.behind place.ino r.before));
         }
 
     pub Spells-taken_out : (new : List ℕ) → new ≡ take place.at bytes ++ drop (place.at + (5 + length name)) bytes → Spells new (without_entry name es)
     Spells-taken_out new is =
         let r = found.reached in
-        let here = spelled r.passed (entry name place.ino ∷ found.behind) r.split in
+        let here = spelled r.passed (entry name place.ino ∷ found.behind) r.parts.split in
         record {
           value = (AreWith-without_entry name es spells.value).entries;
-          spelled = taken_out bytes r.passed found.behind (entry name place.ino) place.at here r.start new is
-              ∙ ap dir_bytes (sym (ap (without_entry name) r.split ∙ without_found name r.passed found.behind place.ino r.before found.after));
+          spelled = taken_out bytes r.passed found.behind (entry name place.ino) place.at here r.parts.start new is
+              ∙ ap dir_bytes (sym (ap (without_entry name) r.parts.split ∙ without_found name r.passed found.behind place.ino r.before found.after));
         }
 
     pub growth_found : entry_growth es name ≡ 0
@@ -55,11 +55,11 @@ module _ (bytes name : List ℕ) (es : List Entry) (spells : Spells bytes es) wh
         → new ≡ written wide at (entry_bytes (entry name ino)) → Spells new (with_entry name ino es)
     Spells-put_in wide new ino is_name fits front back is =
         let r = missing.reached in
-        let here = spelled r.passed missing.behind r.split in
+        let here = spelled r.passed missing.behind r.parts.split in
         record {
           value = (AreWith-with_entry name ino es spells.value is_name fits).entries;
-          spelled = put_in bytes r.passed missing.behind at here r.start wide new (entry name ino) front back is
-              ∙ ap dir_bytes (sym (ap (with_entry name ino) r.split ∙ with_missing name ino r.passed missing.behind r.before missing.after));
+          spelled = put_in bytes r.passed missing.behind at here r.parts.start wide new (entry name ino) front back is
+              ∙ ap dir_bytes (sym (ap (with_entry name ino) r.parts.split ∙ with_missing name ino r.passed missing.behind r.before missing.after));
         }
 
     pub Spells-kept : (new : List ℕ) → new ≡ bytes → Spells new (without_entry name es)
@@ -67,7 +67,7 @@ module _ (bytes name : List ℕ) (es : List Entry) (spells : Spells bytes es) wh
         let r = missing.reached in
         record {
           value = (AreWith-without_entry name es spells.value).entries;
-          spelled = is ∙ spells.spelled ∙ ap dir_bytes (r.split ∙ sym (ap (without_entry name) r.split ∙ without_missing name r.passed missing.behind r.before missing.after));
+          spelled = is ∙ spells.spelled ∙ ap dir_bytes (r.parts.split ∙ sym (ap (without_entry name) r.parts.split ∙ without_missing name r.passed missing.behind r.before missing.after));
         }
 
     pub growth_missing : entry_growth es name ≡ 5 + length name

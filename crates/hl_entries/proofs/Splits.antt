@@ -112,23 +112,23 @@ module _ (es : List Entry) (name : List ℕ) where
   unfolding entry_start
   start_found place found =
       let r = found.reached in
-      ap (λ l. length (dir_bytes (entries_before name l))) r.split ∙ ap (λ l. length (dir_bytes l)) (before_found name r.passed found.behind place.ino r.before found.after) ∙ sym r.start
+      ap (λ l. length (dir_bytes (entries_before name l))) r.parts.split ∙ ap (λ l. length (dir_bytes l)) (before_found name r.passed found.behind place.ino r.before found.after) ∙ sym r.parts.start
 
   pub start_missing : (at : ℕ) → IsMissing es name at → entry_start es name ≡ at
   unfolding entry_start
   start_missing at missing =
       let r = missing.reached in
-      ap (λ l. length (dir_bytes (entries_before name l))) r.split ∙ ap (λ l. length (dir_bytes l)) (before_missing name r.passed missing.behind r.before missing.after) ∙ sym r.start
+      ap (λ l. length (dir_bytes (entries_before name l))) r.parts.split ∙ ap (λ l. length (dir_bytes l)) (before_missing name r.passed missing.behind r.before missing.after) ∙ sym r.parts.start
 
   pub number_is : (place : EntryPlace) → IsFound es name place → entry_number es name ≡ Some place.ino
   number_is place found =
       let r = found.reached in
-      ap (λ l. entry_number l name) r.split ∙ number_found name r.passed found.behind place.ino r.before
+      ap (λ l. entry_number l name) r.parts.split ∙ number_found name r.passed found.behind place.ino r.before
 
   pub number_none : (at : ℕ) → IsMissing es name at → entry_number es name ≡ None
   number_none at missing =
       let r = missing.reached in
-      ap (λ l. entry_number l name) r.split ∙ number_missing name r.passed missing.behind r.before missing.after
+      ap (λ l. entry_number l name) r.parts.split ∙ number_missing name r.passed missing.behind r.before missing.after
 
   pub place_found : (place : EntryPlace) → IsFound es name place → Some place ≡ entry_place es name
   place_found place found =

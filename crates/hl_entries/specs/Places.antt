@@ -28,6 +28,10 @@ entry_place es name = option_map (λ ino. record { at = entry_start es name; ino
 abbrev pub entry_growth : List Entry → List ℕ → ℕ
 entry_growth es name = cond (is_some (entry_number es name)) 0 (5 + length name)
 
--- bytes of entries become those of the entries that f makes of them
+-- of the entries that the bytes spell, if they spell any
+abbrev pub IfSpells : List ℕ → (List Entry → Type 0) → Type 0
+IfSpells bytes P = (es : List Entry) → Spells bytes es → P es
+
+-- bytes of entries become the bytes of the entries that f makes of them
 abbrev pub Become : (List Entry → List Entry) → List ℕ → List ℕ → Type 0
-Become f old new = (es : List Entry) → Spells old es → Spells new (f es)
+Become f old new = IfSpells old (λ es. Spells new (f es))

@@ -13,11 +13,15 @@ AreBefore name = AllByRecursion (λ e. IsBefore e.name name)
 abbrev pub AreAfter : List ℕ → List Entry → Type 0
 AreAfter name = AllByRecursion (λ e. IsBefore name e.name)
 
+-- entries stand in two parts, the second from a place of their bytes on
+pub record Parts (es : List Entry) (at : ℕ) (passed left : List Entry) : Type 0 where
+  pub split : es ≡ passed ++ left
+  pub start : at ≡ length (dir_bytes passed)
+
 -- at a place of the bytes these entries are left, and all before it come before the name
 pub record HasLeft (es : List Entry) (name : List ℕ) (at : ℕ) (left : List Entry) : Type 0 where
   pub passed : List Entry
-  pub split : es ≡ passed ++ left
-  pub start : at ≡ length (dir_bytes passed)
+  pub parts : Parts es at passed left
   pub before : AreBefore name passed
 
 -- the entry of the name stands there

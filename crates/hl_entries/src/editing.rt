@@ -1,11 +1,10 @@
 //! Changing a directory's bytes where they lie.
 
-ghost use Rattle.std.specs.Prelude.{◌≡◌, ◌≤◌, ◌<◌, ◌+◌, ◌-◌, ◌++◌, ℕ, List as Items, length, take, drop, IfSome, IfNone, IfOk, OnOk, OnErr, OnSome};
+ghost use Rattle.std.specs.Prelude.{◌≡◌, ◌≤◌, ◌<◌, ◌+◌, ◌++◌, length, take, drop, IfSome, IfNone, IfOk, OnOk, OnErr, OnSome};
 ghost use Rattle.hl_bytes.specs.Fields.{written, le32};
-ghost use Rattle.hl_dir.specs.declared.entry.Entry.{Entry};
-ghost use Rattle.hl_dir.specs.Dirs.{IsName, Spells, entry_bytes};
+ghost use Rattle.hl_dir.specs.Dirs.{IsName, entry_bytes};
 ghost use Rattle.hl_paths.specs.Entries.{with_entry, without_entry};
-ghost use Rattle.hl_entries.specs.Places.{entry_start, entry_at, entry_growth, Become};
+ghost use Rattle.hl_entries.specs.Places.{IfSpells, Become, entry_start, entry_at, entry_growth};
 
 use crate::searching::search;
 use hl_bytes::{put_bytes, put_u32};
@@ -68,16 +67,18 @@ fn put_entry(bytes: &mut Vec<u8>, at: usize, name: &[u8], ino: u32)
     put_fields(bytes.as_mut_slice(), at, name, ino);
 }
 
-/// Links a number from a name: by a new entry in its place in the order, or by the name's own entry.
-/// Answers where the bytes changed from.
+/// Links a number from a name: by a new entry in its place in the order, or by the entry that the name
+/// has. Answers where the bytes changed from.
 pub fn insert(bytes: &mut Vec<u8>, name: &[u8], ino: u32) -> Result<usize, AllocError>
     requires { length name.now ≤ 255 }
-    ensures entries { IsName name.now → OnOk result (Become (with_entry name.now ino) bytes.old.items bytes.new.items) }
-    ensures place { IfOk result (λ at. (es : Items Entry) → Spells bytes.old.items es →
-        at ≡ entry_start es name.now) }
+    ensures entries { IsName name.now →
+        OnOk result (Become (with_entry name.now ino) bytes.old.items bytes.new.items) }
+    ensures place { IfOk result
+        (λ at. IfSpells bytes.old.items (λ es. at ≡ entry_start es name.now)) }
+    ensures within { IfOk result (λ at. at ≤ length bytes.old.items) }
     ensures front { IfOk result (λ at. take at bytes.new.items ≡ take at bytes.old.items) }
-    ensures len { OnOk result ((es : Items Entry) → Spells bytes.old.items es →
-        length bytes.new.items ≡ length bytes.old.items + entry_growth es name.now) }
+    ensures len { OnOk result (IfSpells bytes.old.items
+        (λ es. length bytes.new.items ≡ length bytes.old.items + entry_growth es name.now)) }
     ensures memory { OnErr result (bytes.new.items ≡ bytes.old.items) }
 {
     match search(bytes.as_slice(), name) {
@@ -93,12 +94,14 @@ pub fn insert(bytes: &mut Vec<u8>, name: &[u8], ino: u32) -> Result<usize, Alloc
     }
 }
 
-/// Links another number from the entry of a name, if there is one: its four bytes are written.
+/// Links another number from the entry of a name, if there is one: its first four bytes are written.
 /// Answers where the bytes changed from.
 pub fn replace(bytes: &mut Vec<u8>, name: &[u8], ino: u32) -> Option<usize>
-    ensures place { (es : Items Entry) → Spells bytes.old.items es →
-        result ≡ entry_at es name.now }
-    ensures entries { OnSome result (Become (with_entry name.now ino) bytes.old.items bytes.new.items) }
+    ensures entries { OnSome result
+        (Become (with_entry name.now ino) bytes.old.items bytes.new.items) }
+    ensures place { IfSpells bytes.old.items (λ es. result ≡ entry_at es name.now) }
+    ensures within { IfSome result
+        (λ at. at + (5 + length name.now) ≤ length bytes.old.items) }
     ensures number { IfSome result (λ at. bytes.new.items ≡ written bytes.old.items at (le32 ino)) }
     ensures front { IfSome result (λ at. take at bytes.new.items ≡ take at bytes.old.items) }
     ensures len { length bytes.new.items ≡ length bytes.old.items }
@@ -113,9 +116,9 @@ pub fn replace(bytes: &mut Vec<u8>, name: &[u8], ino: u32) -> Option<usize>
 
 /// Takes out the entry of a name, if there is one. Answers where the bytes changed from.
 pub fn remove(bytes: &mut Vec<u8>, name: &[u8]) -> Option<usize>
-    ensures place { (es : Items Entry) → Spells bytes.old.items es →
-        result ≡ entry_at es name.now }
     ensures entries { Become (without_entry name.now) bytes.old.items bytes.new.items }
+    ensures place { IfSpells bytes.old.items (λ es. result ≡ entry_at es name.now) }
+    ensures within { IfSome result (λ at. at ≤ length bytes.new.items) }
     ensures front { IfSome result (λ at. take at bytes.new.items ≡ take at bytes.old.items) }
     ensures len { OnSome result
         (length bytes.new.items + (5 + length name.now) ≡ length bytes.old.items) }

@@ -12,7 +12,7 @@ mod place;
 mod searching;
 
 pub use editing::{insert, remove, replace};
-pub use listing::names;
+pub use listing::{count, names};
 pub use place::EntryPlace;
 pub use searching::find;
 

@@ -1,9 +1,7 @@
 //! Searching a directory's bytes for a name.
 
-ghost use Rattle.std.specs.Prelude.{◌≡◌, ◌≤◌, ◌<◌, ◌+◌, ℕ, List as Items, length, slice_index, IfSome, IfNone, MatchResult};
-ghost use Rattle.hl_dir.specs.declared.entry.Entry.{Entry};
-ghost use Rattle.hl_dir.specs.Dirs.{Spells};
-ghost use Rattle.hl_entries.specs.Places.{entry_place};
+ghost use Rattle.std.specs.Prelude.{◌≡◌, ◌≤◌, ◌<◌, ◌+◌, length, slice_index, IfSome, IfNone, MatchResult};
+ghost use Rattle.hl_entries.specs.Places.{IfSpells, entry_place};
 ghost use Rattle.hl_entries.specs.Searches.{Finds};
 
 use crate::place::EntryPlace;
@@ -27,7 +25,7 @@ pub(crate) fn entry_end(bytes: &[u8], at: usize) -> Option<usize>
 
 /// The entry of a name, or where it would begin.
 pub(crate) fn search(bytes: &[u8], name: &[u8]) -> Result<EntryPlace, usize>
-    ensures found { (es : Items Entry) → Spells bytes.now es → Finds es name.now result }
+    ensures found { IfSpells bytes.now (λ es. Finds es name.now result) }
     ensures within { MatchResult result
         (λ place. place.at + (5 + length name.now) ≤ length bytes.now)
         (λ at. at ≤ length bytes.now) }
@@ -49,7 +47,9 @@ pub(crate) fn search(bytes: &[u8], name: &[u8]) -> Result<EntryPlace, usize>
 
 /// The entry of a name: where it stands and the number that it links.
 pub fn find(bytes: &[u8], name: &[u8]) -> Option<EntryPlace>
-    ensures { (es : Items Entry) → Spells bytes.now es → result ≡ entry_place es name.now }
+    ensures place { IfSpells bytes.now (λ es. result ≡ entry_place es name.now) }
+    ensures within { IfSome result
+        (λ place. place.at + (5 + length name.now) ≤ length bytes.now) }
 {
     search(bytes, name).ok()
 }
