@@ -94,8 +94,7 @@ module _ (bytes name : List ℕ) (es : List Entry) (spells : Spells bytes es) wh
       → name_cmp (take (end - (at + 5)) (drop (at + 5) bytes)) name ≡ Less → (behind : List Entry) × HasLeft es name end behind
   passed_on at end [] reached is within less = absurd (ended bytes es spells at end reached.passed reached.parts is within)
   passed_on at end (e ∷ behind) reached is within less =
-      let before : IsBefore e.name name = ap (λ n. name_cmp n name) (sym (name_here bytes es spells at end reached.passed behind e reached.parts is)) ∙ less in
-      (
+      let before : IsBefore e.name name = ap (λ n. name_cmp n name) (sym (name_here bytes es spells at end reached.passed behind e reached.parts is)) ∙ less in (
         behind,
         record {
           passed = reached.passed ++ e ∷ [];

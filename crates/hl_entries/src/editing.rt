@@ -13,7 +13,7 @@ use std::alloc::AllocError;
 /// Makes room for `size` bytes at `at`.
 fn open(bytes: &mut Vec<u8>, at: usize, size: usize) -> Result<(), AllocError>
     requires within { at ≤ length bytes.old.items }
-    requires short { size < 2048 }
+    requires short { size ≤ 260 }
     ensures len { OnOk result (length bytes.new.items ≡ length bytes.old.items + size) }
     ensures front { OnOk result (take at bytes.new.items ≡ take at bytes.old.items) }
     ensures back { OnOk result (drop (at + size) bytes.new.items ≡ drop at bytes.old.items) }

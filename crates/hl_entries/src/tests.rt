@@ -10,9 +10,18 @@ const THREE: &[u8] = b"\x02\0\0\0\x01a\x03\0\0\0\x02bb\x02\x01\0\0\x01d";
 
 #[test]
 fn three_names_are_found(rt: HostRuntime) -> Result<(), Fail> {
-    assert_eq!(rt; find(THREE, b"a".as_slice()), Some(EntryPlace { at: 0, ino: 2 }));
-    assert_eq!(rt; find(THREE, b"bb".as_slice()), Some(EntryPlace { at: 6, ino: 3 }));
-    assert_eq!(rt; find(THREE, b"d".as_slice()), Some(EntryPlace { at: 13, ino: 258 }));
+    assert_eq!(rt;
+        find(THREE, b"a".as_slice()),
+        Some(EntryPlace { at: 0, ino: 2 })
+    );
+    assert_eq!(rt;
+        find(THREE, b"bb".as_slice()),
+        Some(EntryPlace { at: 6, ino: 3 })
+    );
+    assert_eq!(rt;
+        find(THREE, b"d".as_slice()),
+        Some(EntryPlace { at: 13, ino: 258 })
+    );
     Ok(())
 }
 
@@ -78,9 +87,21 @@ fn a_number_is_replaced(rt: HostRuntime) -> Result<(), Fail> {
 #[test]
 fn a_name_is_taken_out(rt: HostRuntime) -> Result<(), Fail> {
     let cases = [
-        (b"a".as_slice(), 0, b"\x03\0\0\0\x02bb\x02\x01\0\0\x01d".as_slice()),
-        (b"bb".as_slice(), 6, b"\x02\0\0\0\x01a\x02\x01\0\0\x01d".as_slice()),
-        (b"d".as_slice(), 13, b"\x02\0\0\0\x01a\x03\0\0\0\x02bb".as_slice()),
+        (
+            b"a".as_slice(),
+            0,
+            b"\x03\0\0\0\x02bb\x02\x01\0\0\x01d".as_slice(),
+        ),
+        (
+            b"bb".as_slice(),
+            6,
+            b"\x02\0\0\0\x01a\x02\x01\0\0\x01d".as_slice(),
+        ),
+        (
+            b"d".as_slice(),
+            13,
+            b"\x02\0\0\0\x01a\x03\0\0\0\x02bb".as_slice(),
+        ),
     ];
     for (name, at, expected) in cases {
         let mut bytes = Vec::from_slice(rt.alloc(), THREE)?;
@@ -101,7 +122,9 @@ fn names_are_listed_in_order(rt: HostRuntime) -> Result<(), Fail> {
         text.push(b'.')?;
     }
     assert!(rt; text.as_slice() == b"a.bb.d.".as_slice());
+    assert_eq!(rt; count(THREE), 3);
     assert!(rt; names(rt.alloc(), b"".as_slice())?.items().is_empty());
+    assert_eq!(rt; count(b"".as_slice()), 0);
     Ok(())
 }
 
@@ -129,7 +152,12 @@ fn bytes_off_the_grammar_are_searched_as_far_as_entries_stand(rt: HostRuntime) -
 fn numbered(k: u32) -> [u8; 4]
     requires { k < 1000 }
 {
-    [b'n', b'0' + (k / 100) as u8, b'0' + (k / 10 % 10) as u8, b'0' + (k % 10) as u8]
+    [
+        b'n',
+        b'0' + (k / 100) as u8,
+        b'0' + (k / 10 % 10) as u8,
+        b'0' + (k % 10) as u8,
+    ]
 }
 
 #[test]
@@ -143,7 +171,10 @@ fn five_hundred_names_come_and_go(rt: HostRuntime) -> Result<(), Fail> {
     assert_eq!(rt; bytes.len(), 500 * 9);
     for k in 0..500u32 {
         let at = 9 * k as usize;
-        assert_eq!(rt; find(bytes.as_slice(), numbered(k).as_slice()), Some(EntryPlace { at, ino: k }));
+        assert_eq!(rt;
+            find(bytes.as_slice(), numbered(k).as_slice()),
+            Some(EntryPlace { at, ino: k })
+        );
     }
     assert_eq!(rt; names(rt.alloc(), bytes.as_slice())?.items().len(), 500);
     for k in 0..500u32 {

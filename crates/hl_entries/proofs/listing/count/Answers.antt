@@ -12,7 +12,7 @@ entries-preserved c = record {
   counted = λ es spells. (
       let r = c.entries.invariant.counted es spells in
       one_counted c.args.bytes.now es spells c.entries.at c.in-Some.end c.entries.count r.0 r.1 c.in-Some.ensures.end c.in-Some.ensures.within
-  );
+      );
 }
 
 pub returns : goal.returns

@@ -8,7 +8,7 @@ abbrev pub invariant-entries : goal.invariant-entries
 invariant-entries l = record {
   within : l.at ≤ length l.bytes;
   fewer : l.count ≤ l.at;
-  counted : (es : List Entry) → Spells l.bytes es → (left : List Entry) × HasCounted es l.at l.count left
+  counted : (es : List Entry) → Spells l.bytes es → (left : List Entry) × HasCounted es l.at l.count left;
 }
 
 abbrev pub decreases-entries : goal.decreases-entries

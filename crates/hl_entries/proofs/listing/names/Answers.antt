@@ -18,7 +18,7 @@ entries-preserved c = record {
       let pushed = c.in_ok-push.ensures.items ∙ ap (λ n. c.entries.names.items ++ n ∷ []) (c.of-name.ensures ∙ c.in_ok-from_slice.ensures.items) in
       subst (λ l. (left : List Entry) × HasListed es c.in-Some.end l left) (sym pushed)
       (one_listed c.args.bytes.now es spells c.entries.at c.in-Some.end c.entries.names.items r.0 r.1 c.in-Some.ensures.end c.in-Some.ensures.within)
-  );
+      );
 }
 
 pub returns : goal.returns

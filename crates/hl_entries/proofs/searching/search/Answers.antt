@@ -13,7 +13,7 @@ entries-preserved c = record {
   reached = λ es spells. (
       let r = c.entries.invariant.reached es spells in
       passed_on c.args.bytes.now c.args.name.now es spells c.entries.at c.in-Some.end r.0 r.1 c.in-Some.ensures.end c.in-Some.ensures.within (sym c.in-Less.ensures)
-  );
+      );
 }
 
 pub returns-in-Equal-clause-found : goal.returns-in-Equal-clause-found
