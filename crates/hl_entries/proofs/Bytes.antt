@@ -1,5 +1,5 @@
 -- The bytes of a directory where an entry begins, and once one is renumbered, put in or taken out there.
-use Rattle.std.proofs.Common.{arith, ◌≡◌, ℕ, ◌+◌, ◌≤◌, List, [], ◌∷◌, ◌++◌, length, get_or, take, drop, refl, ap, ◌∙◌, sym, subst, length-append, append_assoc}
+use Rattle.std.proofs.Common.{arith, ◌≡◌, ℕ, ◌+◌, ◌≤◌, List, [], ◌∷◌, ◌++◌, length, get_or, take, drop, refl, ap, ◌∙◌, sym, length-append}
 use Rattle.std.proofs.lemmas.List.{take_at, drop_at, get_or-drop, drop-drop}
 use Rattle.hl_bytes.specs.Fields.{le32, u32_at, written}
 use Rattle.hl_bytes.proofs.Places.{back32}

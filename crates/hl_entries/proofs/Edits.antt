@@ -1,9 +1,9 @@
 -- What edits where a search ends make of the entries.
-use Rattle.std.proofs.Common.{arith, ◌≡◌, ℕ, ◌+◌, ◌<◌, ◌^◌, Some, List, [], ◌∷◌, ◌++◌, length, take, drop, cond, is_some, None, ap, ◌∙◌, sym, subst}
+use Rattle.std.proofs.Common.{◌≡◌, ℕ, ◌+◌, ◌<◌, ◌^◌, List, ◌∷◌, ◌++◌, length, take, drop, cond, is_some, ap, ◌∙◌, sym, subst}
 use Rattle.hl_bytes.specs.Fields.{le32, written}
 use Rattle.hl_dir.specs.declared.entry.Entry.{Entry}
-use Rattle.hl_dir.specs.Dirs.{IsName, HasRoom, AreEntries, Spells, dir_bytes, entry_bytes}
-use Rattle.hl_paths.specs.Entries.{with_entry, without_entry, AreWith}
+use Rattle.hl_dir.specs.Dirs.{IsName, AreEntries, Spells, dir_bytes, entry_bytes}
+use Rattle.hl_paths.specs.Entries.{with_entry, without_entry}
 use Rattle.hl_paths.proofs.Entries.{AreWith-with_entry, AreWith-without_entry, each_name}
 use Rattle.hl_entries.specs.declared.place.EntryPlace.{EntryPlace}
 use Rattle.hl_entries.specs.Places.{entry_growth}

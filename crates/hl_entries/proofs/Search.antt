@@ -10,7 +10,6 @@ use Rattle.hl_tree.proofs.Below.{name_cmp, name_exact}
 use Rattle.hl_dir.specs.declared.entry.Entry.{Entry}
 use Rattle.hl_dir.specs.Dirs.{IsBefore, HasRoom, AreEntries, Spells, dir_bytes}
 use Rattle.hl_paths.specs.Entries.{entry_names}
-use Rattle.hl_entries.specs.declared.place.EntryPlace.{EntryPlace}
 use Rattle.hl_entries.specs.Searches.{AreAfter, Parts, HasLeft, IsFound, IsMissing}
 use Rattle.hl_entries.proofs.Order.{after_entry, after_through, before_push}
 use Rattle.hl_entries.proofs.Bytes.{length_is, size_is, number_is, name_is, end_is, whole_is}

@@ -1,22 +1,19 @@
 -- Entries that are split where the entry of a name stands, or would stand.
-use Rattle.std.proofs.Common.{◌≡◌, ℕ, ◌^◌, ◌<◌, Bool, true, false, cond, not, List, [], ◌∷◌, ◌++◌, length, Option, Some, None, Result, Ok, Err, refl, ap, ◌∙◌, sym, subst}
+use Rattle.std.proofs.Common.{◌≡◌, ℕ, cond, not, List, [], ◌∷◌, ◌++◌, length, Option, Some, None, Result, Ok, Err, refl, ap, ◌∙◌, sym}
 use Rattle.std.specs.declared.cmp.Ordering.{Ordering}
-use Rattle.std.specs.declared.cmp.Ordering.TheVariants.{Less, Equal, Greater}
 use Rattle.std.specs.Option.{option_map}
 use Rattle.std.specs.Result.{result_ok}
-use Rattle.std.specs.Ordering.{is_eq, is_lt}
+use Rattle.std.specs.Ordering.{is_lt}
 use Rattle.std.specs.Cmp.{tied_itself}
 use Rattle.std.specs.Cmp.Lexicographic.{nat_list_cmp_total}
 use Rattle.std.specs.FinMap.Entries.{by_order}
-use Rattle.hl_tree.proofs.Below.{name_cmp}
 use Rattle.hl_dir.specs.declared.entry.Entry.{Entry}
-use Rattle.hl_dir.specs.Dirs.{IsBefore, dir_bytes}
-use Rattle.hl_paths.specs.Links.{same_name}
+use Rattle.hl_dir.specs.Dirs.{dir_bytes}
 use Rattle.hl_paths.specs.Entries.{entry_number, with_entry, without_entry}
 use Rattle.hl_paths.proofs.Links.{name_itself}
 use Rattle.hl_entries.specs.declared.place.EntryPlace.{EntryPlace}
 use Rattle.hl_entries.specs.Places.{entries_before, entry_start, entry_at, entry_place}
-use Rattle.hl_entries.specs.Searches.{AreBefore, AreAfter, HasLeft, IsFound, IsMissing, Finds}
+use Rattle.hl_entries.specs.Searches.{AreBefore, AreAfter, IsFound, IsMissing, Finds}
 use Rattle.hl_entries.proofs.Order.{greater, other_before, other_after}
 
 module _ (name : List ℕ) where

@@ -1,5 +1,5 @@
 -- Where the entry of a name stands in the bytes of a directory.
-use Rattle.std.specs.Prelude.{ℕ, ◌+◌, Bool, cond, List, length, filter, Option, Some, None, is_some}
+use Rattle.std.specs.Prelude.{ℕ, ◌+◌, cond, List, length, filter, Option, is_some}
 use Rattle.std.specs.Option.{option_map}
 use Rattle.std.specs.Ordering.{nat_cmp, is_lt}
 use Rattle.std.specs.Cmp.Lexicographic.{slice_cmp}

@@ -1,5 +1,4 @@
-use Rattle.std.proofs.Common.{arith, ◌≡◌, ◌+◌, ◌^◌, ◌<◌, ◌≤◌, length, take, drop, List, sym, subst, ◌∙◌, ap}
-use Rattle.hl_dir.specs.declared.entry.Entry.{Entry}
+use Rattle.std.proofs.Common.{arith, ◌≡◌, ◌+◌, length, sym, subst}
 use Rattle.hl_dir.specs.Dirs.{Spells}
 use Rattle.hl_entries.specs.Places.{entry_growth}
 use Rattle.hl_entries.proofs.Splits.{start_found, start_missing}

@@ -1,5 +1,5 @@
-use Rattle.std.proofs.Common.{arith, ◌≡◌, ◌+◌, ◌≤◌, List, [], ◌∷◌, ◌++◌, length, length-append}
-use Rattle.hl_bytes.specs.Fields.{le32, written}
+use Rattle.std.proofs.Common.{arith, ◌≡◌, ◌+◌, ◌≤◌, [], ◌∷◌, ◌++◌, length, length-append}
+use Rattle.hl_bytes.specs.Fields.{le32}
 use Rattle.hl_bytes.proofs.Places.{written_on}
 use Rattle.hl_bytes.proofs.RunLemmas.{length-le32}
 use Rattle.hl_entries.proofs.editing.put_fields.Goals as goal

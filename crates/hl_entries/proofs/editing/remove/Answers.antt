@@ -1,4 +1,4 @@
-use Rattle.std.proofs.Common.{arith, ◌≡◌, ◌+◌, ◌++◌, length, take, drop, List, refl, sym, subst, ap, ◌∙◌}
+use Rattle.std.proofs.Common.{arith, ◌≡◌, ◌+◌, ◌++◌, length, take, drop, refl, sym, subst, ap, ◌∙◌}
 use Rattle.hl_dir.specs.Dirs.{Spells}
 use Rattle.hl_entries.proofs.Splits.{at_found, at_missing}
 use Rattle.hl_entries.proofs.Edits.{Spells-taken_out, Spells-kept}

@@ -1,4 +1,4 @@
-use Rattle.std.proofs.Common.{List, sym, subst}
+use Rattle.std.proofs.Common.{sym, subst}
 use Rattle.hl_dir.specs.Dirs.{Spells}
 use Rattle.hl_entries.proofs.Splits.{at_found, at_missing}
 use Rattle.hl_entries.proofs.Edits.{Spells-renumbered}

@@ -1,4 +1,4 @@
-use Rattle.std.proofs.Common.{arith, ◌+◌, ◌≤◌}
+use Rattle.std.proofs.Common.{arith}
 use Rattle.hl_entries.proofs.Search.{none_counted, one_counted, all_counted}
 use Rattle.hl_entries.proofs.listing.count.Goals as goal
 

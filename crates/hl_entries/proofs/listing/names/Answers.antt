@@ -1,6 +1,5 @@
-use Rattle.std.proofs.Common.{arith, ◌≡◌, ◌+◌, ◌-◌, ◌≤◌, List, [], ◌∷◌, ◌++◌, length, take, drop, sym, subst, ap, ◌∙◌}
+use Rattle.std.proofs.Common.{arith, List, [], ◌∷◌, ◌++◌, sym, subst, ap, ◌∙◌}
 use Rattle.hl_dir.specs.declared.entry.Entry.{Entry}
-use Rattle.hl_dir.specs.Dirs.{Spells}
 use Rattle.hl_entries.proofs.Search.{HasListed, none_listed, one_listed, all_listed}
 use Rattle.hl_entries.proofs.listing.names.Goals as goal
 
