@@ -145,3 +145,8 @@ module _ (es : List Entry) (name : List ℕ) where
   pub place_of : (answer : Result EntryPlace ℕ) → Finds es name answer → result_ok answer ≡ entry_place es name
   place_of (Ok place) found = place_found place found
   place_of (Err at) missing = place_missing at missing
+
+  -- with the number of that entry
+  pub number_of : (answer : Result EntryPlace ℕ) → Finds es name answer → option_map (λ place. place.ino) (result_ok answer) ≡ entry_number es name
+  number_of (Ok place) found = sym (number_is place found)
+  number_of (Err at) missing = sym (number_none at missing)

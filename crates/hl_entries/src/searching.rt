@@ -1,6 +1,8 @@
 //! Searching a directory's bytes for a name.
 
 ghost use Rattle.std.specs.Prelude.{◌≡◌, ◌≤◌, ◌<◌, ◌+◌, length, slice_index, IfSome, IfNone, MatchResult};
+ghost use Rattle.std.specs.Option.{option_map};
+ghost use Rattle.hl_paths.specs.Entries.{entry_number};
 ghost use Rattle.hl_entries.specs.Places.{IfSpells, entry_place};
 ghost use Rattle.hl_entries.specs.Searches.{Finds};
 
@@ -48,6 +50,8 @@ pub(crate) fn search(bytes: &[u8], name: &[u8]) -> Result<EntryPlace, usize>
 /// The entry of a name: where it stands and the number that it links.
 pub fn find(bytes: &[u8], name: &[u8]) -> Option<EntryPlace>
     ensures place { IfSpells bytes.now (λ es. result ≡ entry_place es name.now) }
+    ensures number { IfSpells bytes.now
+        (λ es. option_map (λ place. place.ino) result ≡ entry_number es name.now) }
     ensures within { IfSome result
         (λ place. place.at + (5 + length name.now) ≤ length bytes.now) }
 {
