@@ -7,10 +7,14 @@
 #![tactic(auto)]
 
 mod away;
+#[cfg(test)]
+mod broken;
 mod charges;
 mod contents;
 mod directories;
 mod files;
+#[cfg(test)]
+mod hand_made;
 mod live;
 mod newest;
 mod reach;
