@@ -33,6 +33,7 @@ use hl_tables::Tables;
 use hl_tree::{List, Node, Path};
 use hl_view::seal_line;
 use std::alloc::{AllocError, Global};
+use std::process::Abort;
 use std::test::*;
 
 /// Block 1 of slot 0.
@@ -111,7 +112,8 @@ struct Row {
     has_files: bool,
 }
 
-const ROWS: [Row; 45] = [
+/// Images whose tables, inodes, pointers or blocks are wrong, by the rules 1 to 8.
+const BLOCK_ROWS: [Row; 24] = [
     Row {
         name: "nothing",
         change: Change::Fields(&[]),
@@ -272,6 +274,10 @@ const ROWS: [Row; 45] = [
         breaks: &[Rule::StrayBlock],
         has_files: false,
     },
+];
+
+/// Images whose directories, slots, lines or last blocks are wrong, by the rules 9 to 15.
+const TREE_ROWS: [Row; 21] = [
     Row {
         name: "a directory has a hole",
         change: Change::Fields(&[(112, 32, NOTHING)]),
@@ -919,21 +925,32 @@ fn an_image_that_breaks_no_rule_has_its_files(rt: HostRuntime) -> Result<(), Fai
     Ok(())
 }
 
-#[test]
-fn an_image_that_breaks_a_rule_has_no_files(rt: HostRuntime) -> Result<(), Fail> {
-    let site = site(rt.alloc())?;
-    let shelf = shelf_of(rt.alloc())?;
-    for row in &ROWS {
-        let mut image = image_with_away(rt.alloc(), &site)?;
+/// Tries each row.
+fn try_rows(rt: &impl Abort, alloc: Global, rows: &[Row]) -> Result<(), Fail> {
+    let site = site(alloc)?;
+    let shelf = shelf_of(alloc)?;
+    let good = image_with_away(alloc, &site)?;
+    let mut image = good.as_slice().to_vec(alloc)?;
+    let blocks = site.k as usize * (site.log as usize + 1 + site.lines as usize);
+    for row in rows {
+        assert!(rt; image.len() == BYTES && good.len() == BYTES && 4_096 * blocks <= BYTES);
+        image.as_mut_slice().copy_from_slice(&good);
         put_change(&mut image, &row.change);
         assert!(rt; image.len() == BYTES);
-        assert!(rt;
-            4_096 * (site.k as usize * (site.log as usize + 1 + site.lines as usize)) <= BYTES
-        );
-        let broken = rules_broken(rt.alloc(), &image, &site)?;
+        let broken = rules_broken(alloc, &image, &site)?;
         assert_eq!(rt; broken.as_slice(), row.breaks, "{}", row.name);
-        let files = files_of(rt.alloc(), &image, &site, &shelf)?;
+        let files = files_of(alloc, &image, &site, &shelf)?;
         assert_eq!(rt; files.is_some(), row.has_files, "{}", row.name);
     }
     Ok(())
+}
+
+#[test]
+fn an_image_whose_blocks_break_a_rule_has_no_files(rt: HostRuntime) -> Result<(), Fail> {
+    try_rows(&rt, rt.alloc(), &BLOCK_ROWS)
+}
+
+#[test]
+fn an_image_whose_tree_or_slots_break_a_rule_has_no_files(rt: HostRuntime) -> Result<(), Fail> {
+    try_rows(&rt, rt.alloc(), &TREE_ROWS)
 }
