@@ -6,8 +6,8 @@ use Rattle.hl_found.proofs.FewBlocks.{few_found}
 use Rattle.hl_found.proofs.SoundFound.{inodes_are, used_are, within}
 use Rattle.hl_found.proofs.broken.rules_of_contents.Goals as goal
 
-pub blocks_are_in_place-requires-clause-used : goal.blocks_are_in_place-requires-clause-used
-blocks_are_in_place-requires-clause-used c = used_are c.args.geometry.now (block_of c.args.image.now) (contents_found c.args.found.now) c.requires.found.has
+pub blocks_are_in_place-in_place-requires-clause-used : goal.blocks_are_in_place-in_place-requires-clause-used
+blocks_are_in_place-in_place-requires-clause-used c = used_are c.args.geometry.now (block_of c.args.image.now) (contents_found c.args.found.now) c.requires.found.has
 
 pub inode-requires : goal.inode-requires
 inode-requires c =
