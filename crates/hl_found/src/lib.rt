@@ -14,6 +14,8 @@ mod contents;
 mod directories;
 mod files;
 #[cfg(test)]
+mod good;
+#[cfg(test)]
 mod hand_made;
 mod live;
 mod newest;
@@ -26,6 +28,8 @@ mod staged;
 mod tables;
 #[cfg(test)]
 mod tests;
+#[cfg(test)]
+mod verdict;
 
 pub use away::aways_are_apart;
 pub use charges::charge_is_within;

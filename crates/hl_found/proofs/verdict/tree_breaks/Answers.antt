@@ -2,7 +2,7 @@ use Rattle.std.proofs.Common.{sym, subst}
 use Rattle.hl_nodes.specs.Found.{nodes_found}
 use Rattle.hl_found.specs.Reach.{HaveNames}
 use Rattle.hl_found.proofs.DirectoriesFound.{have_names}
-use Rattle.hl_found.proofs.broken.tree_breaks.Goals as goal
+use Rattle.hl_found.proofs.verdict.tree_breaks.Goals as goal
 
 pub places_of-requires : goal.places_of-requires
 places_of-requires c =

@@ -1,6 +1,6 @@
 use Rattle.std.proofs.Common.{◌≡◌, ◌*◌, length, lit≤, arith}
 use Rattle.hl_view.proofs.SegmentLemmas.{zero_behind}
-use Rattle.hl_found.proofs.broken.seal_one.Goals as goal
+use Rattle.hl_found.proofs.good.seal_one.Goals as goal
 
 pub seal_line-requires : goal.seal_line-requires
 seal_line-requires c =

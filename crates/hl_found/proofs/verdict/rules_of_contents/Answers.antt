@@ -4,7 +4,7 @@ use Rattle.hl_bytes.specs.Buffers.{block_of}
 use Rattle.hl_found.specs.Found.{contents_found}
 use Rattle.hl_found.proofs.FewBlocks.{few_found}
 use Rattle.hl_found.proofs.SoundFound.{inodes_are, used_are, within}
-use Rattle.hl_found.proofs.broken.rules_of_contents.Goals as goal
+use Rattle.hl_found.proofs.verdict.rules_of_contents.Goals as goal
 
 pub blocks_are_in_place-in_place-requires-clause-used : goal.blocks_are_in_place-in_place-requires-clause-used
 blocks_are_in_place-in_place-requires-clause-used c = used_are c.args.geometry.now (block_of c.args.image.now) (contents_found c.args.found.now) c.requires.found.has
