@@ -7,10 +7,16 @@
 #![tactic(auto)]
 
 mod away;
+#[cfg(test)]
+mod broken;
 mod charges;
 mod contents;
 mod directories;
 mod files;
+#[cfg(test)]
+mod good;
+#[cfg(test)]
+mod hand_made;
 mod live;
 mod newest;
 mod reach;
@@ -22,6 +28,8 @@ mod staged;
 mod tables;
 #[cfg(test)]
 mod tests;
+#[cfg(test)]
+mod verdict;
 
 pub use away::aways_are_apart;
 pub use charges::charge_is_within;

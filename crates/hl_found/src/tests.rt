@@ -2,22 +2,15 @@
 //! a unit of one part at block 128 that brings the root and a file, and behind it a part at block
 //! 131 that brings another file, and may end its unit.
 
-ghost use Rattle.std.specs.Prelude.{◌≡◌, length};
-
 use super::*;
-use hl_addr::{Geometry, NOTHING, Numbers};
-use hl_bytes::{BLOCK, BlockRecord, put_u32};
-use hl_summary::{INODE, Summary, seal};
-use hl_super::{Record, encode_record};
+use crate::hand_made::{blank, put, put_inode, put_part, put_record, put_tables, site};
+use hl_addr::{Geometry, Numbers};
+use hl_bytes::BlockRecord;
+use hl_summary::{Heading, INODE};
+use hl_super::Record;
 use hl_tables::Tables;
-use hl_tree::List;
 use std::alloc::{AllocError, Global};
 use std::test::*;
-
-/// The blocks up to the end of the log, and their bytes.
-const BLOCKS: usize = 1_088;
-
-const BYTES: usize = 4_456_448;
 
 /// What an image has in the place of what is described above.
 #[derive(Clone, Copy)]
@@ -45,31 +38,13 @@ const PLAIN: Variant = Variant {
     fields: [(200, 0, 1), (201, 0, 1)],
 };
 
-fn put(image: &mut [u8], field: (usize, usize, u32)) {
-    if field.0 < BLOCKS && field.1 < 4_093 && image.len() == BYTES {
-        put_u32(image, BLOCK * field.0 + field.1, field.2);
-    }
-}
-
-/// Writes the inode of an empty file or, with kind 2, an empty directory.
-fn put_inode(image: &mut [u8], block: usize, number: u32, kind: u32) {
-    put(image, (block, 0, 0x4e49_4c48));
-    put(image, (block, 4, 0x3145_444f));
-    put(image, (block, 8, number));
-    put(image, (block, 12, kind));
-    for i in 0..13 {
-        put(image, (block, 32 + 4 * i, NOTHING));
-    }
-}
-
-fn put_record(
+fn record_of(
     alloc: Global,
-    image: &mut [u8],
     number: u64,
     block: u32,
     variant: Variant,
-) -> Result<(), AllocError> {
-    let rec = Record {
+) -> Result<Record, AllocError> {
+    Ok(Record {
         number,
         serial: 7,
         seg: 2,
@@ -78,75 +53,49 @@ fn put_record(
         format: 1,
         volumes: Numbers::of([variant.slots].to_vec(alloc)?),
         tables: Numbers::of([variant.table, 101, 102, 103].to_vec(alloc)?),
-    };
-    let at = 1 + (number % 2 == 0) as usize;
-    let fits = rec.volumes.items().len() <= 32 && rec.tables.items().len() <= 256;
-    if image.len() == BYTES && fits {
-        encode_record(&rec, &mut image[BLOCK * at..BLOCK * at + BLOCK]);
-    }
-    Ok(())
+    })
 }
 
-/// Seals a part of the segment 2 that brings the inodes of these numbers.
-fn put_part(
-    alloc: Global,
-    image: &mut [u8],
-    block: u32,
-    serial: u64,
-    inos: &[u32],
-    ends: bool,
-) -> Result<(), AllocError> {
-    let mut blocks = Vec::new(alloc);
-    for ino in inos {
-        blocks.push(BlockRecord {
-            ino: *ino,
-            index: INODE,
-        })?;
-    }
-    let count = blocks.len();
-    if image.len() != BYTES || count > 2 || block > 60 {
-        return Ok(());
-    }
-    let part = Summary {
-        serial,
-        next_seg: 2,
-        next_block: block + 1 + count as u32,
-        ends,
-        blocks: List::of(blocks),
-        tables: List::of(Vec::new(alloc)),
-    };
-    let from = BLOCK * (128 + block as usize);
-    if part.blocks.items().len() == count {
-        seal(&part, &mut image[from..from + BLOCK * (1 + count)]);
-    }
-    Ok(())
-}
-
-fn put_tables(alloc: Global, image: &mut [u8], site: &Geometry) -> Result<(), AllocError> {
+/// Tables in which the root alone is in use.
+fn root_tables(alloc: Global, site: &Geometry) -> Result<Tables, AllocError> {
     let mut tables = Tables::new(alloc, site)?;
     if 1 < site.inodes {
         tables.set_inode(1, 110);
     }
-    for i in 0..tables.blocks() {
-        if i < 4 && image.len() == BYTES {
-            let from = BLOCK * (100 + i as usize);
-            tables.write_block(i, &mut image[from..from + BLOCK]);
-        }
+    Ok(tables)
+}
+
+/// A part behind which the next one stands in segment 2.
+fn heading(serial: u64, next_block: u32, ends: bool) -> Heading {
+    Heading {
+        serial,
+        next_seg: 2,
+        next_block,
+        ends,
     }
-    Ok(())
+}
+
+fn inode_block(ino: u32) -> BlockRecord {
+    BlockRecord { ino, index: INODE }
 }
 
 fn image_of(alloc: Global, site: &Geometry, variant: Variant) -> Result<Vec<u8>, AllocError> {
-    let mut image = vec![in alloc; 0; BYTES]?;
-    put_record(alloc, &mut image, 3, 40, PLAIN)?;
-    put_record(alloc, &mut image, variant.number, 0, variant)?;
-    put_tables(alloc, &mut image, site)?;
+    let mut image = blank(alloc)?;
+    put_record(&mut image, &record_of(alloc, 3, 40, PLAIN)?);
+    put_record(&mut image, &record_of(alloc, variant.number, 0, variant)?);
+    put_tables(&mut image, &root_tables(alloc, site)?);
     put_inode(&mut image, 110, 1, 2);
     put_inode(&mut image, 129, 1, 2);
     put_inode(&mut image, 130, variant.file, 1);
     put_inode(&mut image, 132, 5, 1);
-    put_part(alloc, &mut image, 0, 7, &[1, 2], true)?;
-    put_part(alloc, &mut image, 3, 8, &[5], variant.ends)?;
+    let first = [inode_block(1), inode_block(2)];
+    put_part(&mut image, 128, heading(7, 3, true), &first);
+    put_part(
+        &mut image,
+        131,
+        heading(8, 5, variant.ends),
+        &[inode_block(5)],
+    );
     for field in variant.fields {
         put(&mut image, field);
     }
@@ -167,8 +116,7 @@ fn shown(found: &Option<FoundContents>) -> (u64, usize, usize) {
 
 #[test]
 fn an_image_has_what_its_newest_record_and_whole_units_say(rt: HostRuntime) -> Result<(), Fail> {
-    let volumes = Numbers::of([4].to_vec(rt.alloc())?);
-    let site = Geometry::new(64, 16, 13, 512, volumes).ok_or("off the limits")?;
+    let site = site(rt.alloc())?;
     let none = (0, 0, 0);
     for (variant, wanted, lives, apart) in [
         (PLAIN, (4, 1, 2), 6, true),
