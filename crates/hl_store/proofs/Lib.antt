@@ -1,0 +1,4 @@
+mod SegmentLemmas
+mod CountLemmas
+mod ChargeRoom
+mod BlockSteps
