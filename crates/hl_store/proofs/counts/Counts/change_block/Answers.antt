@@ -1,4 +1,5 @@
 use Rattle.std.proofs.Common.{◌≡◌, ◌-◌, ◌+◌, ◌≤◌, ℕ, List, length, sym, ◌∙◌, ap, arith}
+use Rattle.std.proofs.lemmas.List.{with_items_is}
 use Rattle.hl_overlay.specs.declared.pointers.Pointer.{Pointer}
 use Rattle.hl_overlay.specs.Pointing.{where_is}
 use Rattle.hl_tally.specs.Counting.{charge_at, charge_held, far_charge, removed, without_block, without_own, without_pointer_block}
@@ -30,12 +31,12 @@ returns-clause-counts c = λ g h d e k_is log_is held_is was_is before_is is_is 
       | in_default v ↦ ap (λ x. x.charge) v.self-inside-is
     ] in
     let at_live : c.if-i-ge-DIRECT.self-inside.live.items ≡ without_pointer_block k d i c.self.inside.live.items = elim c.if-i-ge-DIRECT.branch [
-      | then-i-ge-DIRECT w ↦ ap (λ x. x.live.items) w.self-inside-is ∙ w.remove_live.ensures ∙ ap (λ (l : List ℕ). removed k l c.args.was.now.single) w.deref_mut.ensures.value
+      | then-i-ge-DIRECT w ↦ ap (λ x. x.live.items) w.self-inside-is ∙ with_items_is c.self.inside.live w.remove_live.new.live (w.remove_live.auto.live ∙ w.deref_mut.ensures.len) ∙ w.remove_live.ensures ∙ ap (λ (l : List ℕ). removed k l c.args.was.now.single) w.deref_mut.ensures.value
           ∙ far_gone k i c.args.was.now.single d c.self.inside.live.items w.if-i-ge-DIRECT.true (ap (λ x. x.single) was_is)
       | else-i-ge-DIRECT w ↦ ap (λ x. x.live.items) w.self-inside-is ∙ near_stays k i d c.self.inside.live.items w.if-i-ge-DIRECT.false
     ] in
     let then_live : c.match-before.self-inside.live.items ≡ without_block k before c.if-i-ge-DIRECT.self-inside.live.items = elim c.match-before.branch [
-      | in-Kept v ↦ ap (λ x. x.live.items) v.self-inside-is ∙ v.remove_live-in-Kept.ensures ∙ ap (λ (l : List ℕ). removed k l v.in-Kept.addr) v.deref_mut-in-Kept.ensures.value
+      | in-Kept v ↦ ap (λ x. x.live.items) v.self-inside-is ∙ with_items_is c.if-i-ge-DIRECT.self-inside.live v.remove_live-in-Kept.new.live (v.remove_live-in-Kept.auto.live ∙ v.deref_mut-in-Kept.ensures.len) ∙ v.remove_live-in-Kept.ensures ∙ ap (λ (l : List ℕ). removed k l v.in-Kept.addr) v.deref_mut-in-Kept.ensures.value
           ∙ sym (ap (λ (p : Pointer). without_block k p c.if-i-ge-DIRECT.self-inside.live.items) v.in-Kept.is)
       | in_default v ↦ ap (λ x. x.live.items) v.self-inside-is ∙ not_kept k before c.if-i-ge-DIRECT.self-inside.live.items v.in_default.not-Kept
     ] in
