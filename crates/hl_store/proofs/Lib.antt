@@ -1,2 +1,6 @@
 pub mod LayLemmas
 pub mod SiteRecords
+mod SegmentLemmas
+mod CountLemmas
+mod ChargeRoom
+mod BlockSteps
