@@ -1,0 +1,2 @@
+mod ReadRuns
+mod DraftReads
