@@ -1,2 +1,3 @@
 mod ReadRuns
 mod DraftReads
+mod SeatLemmas

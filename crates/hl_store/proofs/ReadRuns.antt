@@ -26,10 +26,10 @@ rose_since a b c le rose = omega arith
 pub rose_until : (a b c : ℕ) → Rose a b → b ≤ c → Rose a c
 rose_until a b c rose le = omega arith
 
-module _ {M : Type 0} (history : M → Option History) (blocks faults write_faults say_faults : M → ℕ) where
+module _ {M : Type 0} {history : M → Option History} {blocks faults write_faults say_faults : M → ℕ} where
   -- no read was made
-  pub reads_none : (m : M) → OnlyReads history blocks faults write_faults say_faults m m
-  reads_none m = record {
+  pub reads_none : {m : M} → OnlyReads history blocks faults write_faults say_faults m m
+  reads_none {m} = record {
     unchanged = starts (history m) IsUnchanged (λ h e. refl);
     blocks_same = refl;
     faults_most = omega arith;
@@ -38,9 +38,9 @@ module _ {M : Type 0} (history : M → Option History) (blocks faults write_faul
   }
 
   -- reads, and then reads
-  pub reads_then : (before middle now : M) → OnlyReads history blocks faults write_faults say_faults before middle → OnlyReads history blocks faults write_faults say_faults middle now
+  pub reads_then : {before middle now : M} → OnlyReads history blocks faults write_faults say_faults before middle → OnlyReads history blocks faults write_faults say_faults middle now
       → OnlyReads history blocks faults write_faults say_faults before now
-  reads_then before middle now run more = record {
+  reads_then {before} {middle} {now} run more = record {
     unchanged = unchanged_then (history before) (history middle) (history now) run.unchanged more.unchanged;
     blocks_same = more.blocks_same ∙ run.blocks_same;
     faults_most = omega (arith, run.faults_most, more.faults_most);

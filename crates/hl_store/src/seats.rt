@@ -112,6 +112,7 @@ impl<M: Machine> Store<M> {
         } else {
             let draft = read_draft(&mut self.log, &self.tables, alloc, ino)?;
             self.overlay.admit(draft, count)?;
+            let _ = self.overlay.others();
         }
         Ok(())
     }

@@ -15,7 +15,7 @@ pub of-requires : goal.of-requires
 of-requires g c = c.in_ok-inode.ensures.is
 
 pub returns-in_err-read_block-clause-machine : goal.returns-in_err-read_block-clause-machine
-returns-in_err-read_block-clause-machine g c = reads_then {M = g.row.M.Denot} g.M.Machine.history g.M.Machine.blocks g.M.Machine.faults g.M.Machine.write_faults g.M.Machine.say_faults c.args.log.now.machine c.read_inode.new.log.machine c.read_block.new.log.machine c.in_ok-inode.ensures.machine c.in_err-read_block.ensures.machine
+returns-in_err-read_block-clause-machine g c = reads_then c.in_ok-inode.ensures.machine c.in_err-read_block.ensures.machine
 
 pub returns-clause-draft : goal.returns-clause-draft
 returns-clause-draft g c = elim c.if-inode.branch [
@@ -35,6 +35,6 @@ returns-clause-number g c = elim c.if-inode.branch [
 pub returns-clause-machine : goal.returns-clause-machine
 returns-clause-machine g c = elim c.if-inode.branch [
   | then-inode+in_ok-read_block w ↦ subst (λ (l : LogValue g.row.M.Denot). OnlyReads {M = g.row.M.Denot} g.M.Machine.history g.M.Machine.blocks g.M.Machine.faults g.M.Machine.write_faults g.M.Machine.say_faults c.args.log.now.machine l.machine) (sym w.log-is)
-      (reads_then {M = g.row.M.Denot} g.M.Machine.history g.M.Machine.blocks g.M.Machine.faults g.M.Machine.write_faults g.M.Machine.say_faults c.args.log.now.machine c.read_inode.new.log.machine w.read_block.new.log.machine c.in_ok-inode.ensures.machine w.in_ok-read_block.ensures.machine)
+      (reads_then c.in_ok-inode.ensures.machine w.in_ok-read_block.ensures.machine)
   | else-inode w ↦ subst (λ (l : LogValue g.row.M.Denot). OnlyReads {M = g.row.M.Denot} g.M.Machine.history g.M.Machine.blocks g.M.Machine.faults g.M.Machine.write_faults g.M.Machine.say_faults c.args.log.now.machine l.machine) (sym w.log-is) c.in_ok-inode.ensures.machine
 ]
