@@ -1,6 +1,6 @@
 //! The drafts with their new blocks.
 
-ghost use Rattle.std.specs.Prelude.{◌≡◌, ◌≢◌, ℕ, ◌+◌, ◌*◌, ◌<◌, ◌≤◌, ◌^◌, [], false, IfOk, OnOk, OnErr, IfSome, Some, None, length, option_map};
+ghost use Rattle.std.specs.Prelude.{◌≡◌, ◌≢◌, ℕ, ◌+◌, ◌*◌, ◌<◌, ◌≤◌, ◌^◌, ◌++◌, ◌∷◌, [], false, IfOk, OnOk, OnErr, IfSome, Some, None, length, option_map};
 ghost use Rattle.std.specs.Option.{option_copied};
 ghost use Rattle.std.specs.Vec.{vec_capacity};
 ghost use Rattle.hl_overlay.specs.Pointing.{IsAddressed, IsNotNew, is_hole_pointer};
@@ -175,6 +175,7 @@ impl Overlay {
         requires is { IsDraft draft }
         requires unchanged { draft.changed ≡ false }
         ensures ok { OnOk result (Redrafts self.old.drafts self.new.drafts draft.ino draft) }
+        ensures last { OnOk result (self.new.drafts.items ≡ self.old.drafts.items ++ draft ∷ []) }
         ensures room { OnOk result (self.new.room ≡ self.old.room + count) }
         ensures blocks { self.new.blocks ≡ self.old.blocks }
         ensures err { OnErr result (self.new ≡ self.old) }

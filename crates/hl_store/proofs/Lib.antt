@@ -4,3 +4,6 @@ mod SegmentLemmas
 mod CountLemmas
 mod ChargeRoom
 mod BlockSteps
+mod ReadRuns
+mod DraftReads
+mod SeatLemmas

@@ -2,6 +2,7 @@
 
 ghost use Rattle.std.specs.Prelude.{◌≡◌, ◌+◌, ◌<◌, ◌≤◌, false, IfErr, IfOk, IsSome, OnErr, OnOk, length};
 ghost use Rattle.hl_media.specs.Moments.{Now};
+ghost use Rattle.hl_inode.specs.Inodes.{IsInode};
 ghost use Rattle.hl_log.specs.Logs.{OnlyReads, with_machine};
 ghost use Rattle.hl_overlay.specs.Drafting.{IsDraft};
 ghost use Rattle.hl_overlay.specs.DraftTables.{draft_of};
@@ -44,6 +45,8 @@ pub(crate) fn read_block<M: Machine>(log: &mut Log<M>, addr: u32, out: &mut [u8]
 /// Reads the inode of a number at an address. A block that isn't its inode counts as want of memory.
 fn read_inode<M: Machine>(log: &mut Log<M>, ino: u32, own: u32) -> Result<Inode, Trouble>
     ensures inode { IfOk result (GivesInode M.history log.old ino own) }
+    ensures is { IfOk result IsInode }
+    ensures number { IfOk result (λ inode. inode.number ≡ ino) }
     ensures machine { OnlyReads M.history M.blocks M.faults M.write_faults M.say_faults
         log.old.machine log.new.machine }
     ensures fault { IfErr result (IsCaused M.faults log.old.machine log.new.machine) }
@@ -109,6 +112,7 @@ impl<M: Machine> Store<M> {
         } else {
             let draft = read_draft(&mut self.log, &self.tables, alloc, ino)?;
             self.overlay.admit(draft, count)?;
+            let _ = self.overlay.others();
         }
         Ok(())
     }
