@@ -121,7 +121,7 @@ adds_one plan uses [] d old middle new all one = (new, subst (λ x. AddsWanted p
 adds_one plan uses (e ∷ ds) d old middle new (next, first, all) one = (next, first, adds_one plan uses ds d next middle new all one)
 
 -- how many blocks a draft brings
-brings : (plan : List ℕ) (used : ℕ) (d : NodeDraft) (old new : List (BlockRecord × Block)) (changed : Bool) (shape : Option Shape) → d.changed ≡ changed → d.shape ≡ shape → AddsWanted plan used d (if changed then shape else None) old new → length new ≡ length old + count_for d
+pub brings : (plan : List ℕ) (used : ℕ) (d : NodeDraft) (old new : List (BlockRecord × Block)) (changed : Bool) (shape : Option Shape) → d.changed ≡ changed → d.shape ≡ shape → AddsWanted plan used d (if changed then shape else None) old new → length new ≡ length old + count_for d
 brings plan used d old new false shape changed_is shape_is adds = ap length adds ∙ sym (ap (λ n. length old + n) (ap (λ b. if (b && is_some d.shape) then (if needs_pointer_block d then 2 else 1) else 0) changed_is) ∙ add-zero (length old))
 brings plan used d old new true None changed_is shape_is adds = ap length adds ∙ sym (ap (λ n. length old + n) (ap (λ b. if (b && is_some d.shape) then (if needs_pointer_block d then 2 else 1) else 0) changed_is ∙ ap (λ (s : Option Shape). if is_some s then (if needs_pointer_block d then 2 else 1) else 0) shape_is) ∙ add-zero (length old))
 brings plan used d old new true (Some shape) changed_is shape_is adds = by adds.pointer_block

@@ -7,3 +7,5 @@ mod BlockSteps
 mod ReadRuns
 mod DraftReads
 mod SeatLemmas
+pub mod RunPairs
+pub mod FlushLemmas
