@@ -9,3 +9,5 @@ mod DraftReads
 mod SeatLemmas
 pub mod RunPairs
 pub mod FlushLemmas
+pub mod FlushedLemmas
+pub mod QuietLemmas

@@ -8,5 +8,5 @@ pub mod Finding
 pub mod Seats
 pub mod Reading
 pub mod Changes
-pub mod Writing
 pub mod Flushes
+pub mod Writing
