@@ -101,6 +101,7 @@ impl<M: Machine> Store<M> {
         requires number { IsNumber self.old ino }
         ensures { Touches self.old self.new ino now }
     {
+        let _ = self.overlay.others();
         self.uses[ino as usize] = now;
     }
 

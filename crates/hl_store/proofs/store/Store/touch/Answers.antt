@@ -1,0 +1,11 @@
+use Rattle.std.proofs.Common.{subst}
+use Rattle.std.specs.Prelude.{slice_set}
+use Rattle.hl_store.specs.Values.{StoreValue}
+use Rattle.hl_store.specs.Shapes.{IsNumber}
+use Rattle.hl_store.specs.Changes.{Touches}
+use Rattle.hl_store.proofs.UseChanges.{touched}
+use Rattle.hl_store.proofs.store.Store.touch.Goals as goal
+
+pub returns : goal.returns
+returns g c =
+    rw (← c.self.view_is) (touched _ c.self.invariant.shape c.others.ensures.whole c.args.ino c.args.now (rw c.self.view_is c.requires.number.high))
