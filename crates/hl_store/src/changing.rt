@@ -23,6 +23,7 @@ use hl_overlay::{Pointer, Shape};
 use hl_tseg::Slot;
 
 /// How many blocks a size takes.
+#[tactic(auto, unfolding(hl_placed::specs::Blocks::blocks_of))]
 fn blocks_of(size: u64) -> u32
     requires { size ≤ 4243456 }
     ensures value { result ≡ blocks_of size }

@@ -20,7 +20,8 @@ pub(crate) struct Footing {
 impl Footing {
     /// That of a draft.
     fn of(draft: &NodeDraft) -> Footing
-        ensures { result ≡ footing_of draft.now }
+        ensures value { result ≡ footing_of draft.now }
+        ensures pointers { length draft.now.pointers ≡ 1036 }
     {
         Footing {
             changed: draft.changed,
