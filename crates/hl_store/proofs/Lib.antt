@@ -1,1 +1,3 @@
+mod ChargeRoom
 mod UseChanges
+mod ShapeChanges

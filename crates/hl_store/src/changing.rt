@@ -175,6 +175,7 @@ impl<M: Machine> Store<M> {
             None => unreachable!(),
         };
         self.overlay.set_shape(ino, shape);
+        let _ = self.overlay.others();
         self.counts.change_shape(k, ino, &was, before, shape);
     }
 }

@@ -114,7 +114,9 @@ impl Counts {
         requires k { 0 < k }
         requires low { 1 ≤ ino }
         requires high { ino < length self.old.in_use }
-        ensures { CountsShape k ino was.now before shape self.old self.new }
+        ensures counts { CountsShape k ino was.now before shape self.old self.new }
+        ensures numbers { length self.new.in_use ≡ length self.old.in_use }
+        ensures segments { length self.new.live ≡ length self.old.live }
     {
         self.let_own_go(k, was);
         self.charge = self
