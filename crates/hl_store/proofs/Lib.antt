@@ -1,3 +1,4 @@
 mod ChargeRoom
 mod UseChanges
 mod ShapeChanges
+mod DropSteps

@@ -11,7 +11,7 @@ ghost use Rattle.hl_overlay.specs.Overlays.Holding.{Zeros};
 ghost use Rattle.hl_overlaid.specs.Changes.{KeepsKind};
 ghost use Rattle.hl_store.specs.Values.{layout};
 ghost use Rattle.hl_store.specs.Shapes.{IsNumber};
-ghost use Rattle.hl_store.specs.Changes.{Always, DropsFrom, HasSegmentAt, IsOfKind, MayGoAway};
+ghost use Rattle.hl_store.specs.Changes.{Always, DropsBetween, DropsFrom, HasSegmentAt, IsOfKind, MayGoAway};
 ghost use Rattle.hl_store.specs.Changes.{PutsInto, Reshapes, StaysIn, Touches, shape_of};
 
 use crate::answers::Node;
@@ -154,9 +154,19 @@ impl<M: Machine> Store<M> {
             None => unreachable!(),
         };
         'blocks: for i in from..end {
-            if !self.overlay.is_hole(ino, i) {
-                self.clear(ino, i);
-            }
+            self.drop_block(ino, i);
+        }
+        let _ = self.overlay.others();
+    }
+
+    /// Makes a block of a drafted node a hole, if it isn't.
+    fn drop_block(&mut self, ino: u32, i: u32)
+        requires number { IsNumber self.old ino }
+        requires block { HasBlock self.old.overlay.drafts ino i }
+        ensures { DropsBetween self.old self.new ino i (i + 1) }
+    {
+        if !self.overlay.is_hole(ino, i) {
+            self.clear(ino, i);
         }
     }
 
