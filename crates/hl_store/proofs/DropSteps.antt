@@ -30,6 +30,17 @@ other_block : (node : Option FlatNode) (i used j : ℕ) → j ≢ i → old_bloc
 other_block None i used j ne = refl
 other_block (Some n) i used j ne = get_or-set_other n.content.blocks i j Hole Hole ne
 
+-- a hole holds zeros
+hole_zeros : (v : OverlayValue) (ino i : ℕ) → option_map is_hole_pointer (where_in v.drafts ino i) ≡ Some true → holding v ino i ≡ Some Zeros
+hole_zeros v ino i is = by (where_in v.drafts ino i) is
+  where
+    by : (p : Option Pointer) → option_map is_hole_pointer p ≡ Some true → option_map (holding_of v.blocks) p ≡ Some Zeros
+    by None e = absurd (none_some e)
+    by (Some places.Hole) e = refl
+    by (Some (places.Kept addr)) e = let f = one refl e in cc
+    by (Some (places.Moved addr serial position)) e = let f = one refl e in cc
+    by (Some (places.New n)) e = let f = one refl e in cc
+
 module _ {M : Type 0} where
   -- what is beside stays through two changes
   pub beside_both : (old mid new : StoreValue M) → KeepsBeside old mid → KeepsBeside mid new → KeepsBeside old new
@@ -50,6 +61,20 @@ module _ {M : Type 0} where
     kept = λ j lt. others j (λ same. (let e : j ≡ i = same in omega arith));
     holes = λ j from end. subst (λ k. holding new.overlay ino k ≡ Some Zeros) (let e : i ≡ j = omega arith in e) hole;
     room = room;
+  }
+
+  -- and where it was one
+  pub was_hole : (v : StoreValue M) (ino i : ℕ) → option_map is_hole_pointer (where_in v.overlay.drafts ino i) ≡ Some true → DropsBetween v v ino i (i + 1)
+  was_hole v ino i is = record {
+    beside = refl;
+    uses = refl;
+    over = λ c s l. l;
+    others = λ c s l q ne. refl;
+    blocks = λ c s l j lt. refl;
+    shapes = λ q lt. refl;
+    kept = λ j lt. refl;
+    holes = λ j from end. subst (λ k. holding v.overlay ino k ≡ Some Zeros) (let e : i ≡ j = omega arith in e) (hole_zeros v.overlay ino i is);
+    room = refl;
   }
 
   -- NONE IS DROPPED yet
@@ -82,3 +107,37 @@ module _ {M : Type 0} where
     ];
     room = b.room ∙ a.room;
   }
+
+  -- a number that is drafted is so after, with its shape
+  pub drafted_there : (old new : StoreValue M) (ino : ℕ) → ino < (layout old).inodes → KeepsShapes old new → (d : NodeDraft) → draft_of old.overlay.drafts ino ≡ Some d → (e : NodeDraft) × (draft_of new.overlay.drafts ino ≡ Some e) × (e.shape ≡ d.shape)
+  drafted_there old new ino high keeps d at = mapped (λ (x : NodeDraft). x.shape) (draft_of new.overlay.drafts ino) d.shape (keeps ino high ∙ ap (option_map (λ (x : NodeDraft). x.shape)) at)
+
+  -- so its size reaches the blocks that it reached
+  pub block_there : (old new : StoreValue M) (ino i : ℕ) → ino < (layout old).inodes → KeepsShapes old new → (d : NodeDraft) → draft_of old.overlay.drafts ino ≡ Some d → i < blocks_of_shape d.shape → HasBlock new.overlay.drafts ino i
+  block_there old new ino i high keeps d at lt =
+      let e = drafted_there old new ino high keeps d at in
+      record { draft = e.0; is = e.1; within = subst (λ s. i < blocks_of_shape s) (sym e.2) lt }
+
+  -- ALL ARE DROPPED once those below the end are, since a draft has no block past its size
+  pub all_dropped : (old new : StoreValue M) (ino from i : ℕ) → ino < (layout old).inodes → (d : NodeDraft) → draft_of old.overlay.drafts ino ≡ Some d → blocks_of_shape d.shape ≤ i → IsWholeOverlay new.overlay
+      → DropsBetween old new ino from i → DropsBetween old new ino from 1036
+  all_dropped old new ino from i high d at end whole drops = record {
+    beside = drops.beside;
+    uses = drops.uses;
+    over = drops.over;
+    others = drops.others;
+    blocks = drops.blocks;
+    shapes = drops.shapes;
+    kept = drops.kept;
+    holes = λ j low few. elim (cases_lt j i) [
+      | inl lt ↦ drops.holes j low lt
+      | inr ge ↦ past j ge few
+    ];
+    room = drops.room;
+  }
+    where
+      past : (j : ℕ) → i ≤ j → j < 1036 → holding new.overlay ino j ≡ Some Zeros
+      past j ge few =
+          let e = drafted_there old new ino high drops.shapes d at in
+          let hole : where_is e.0.pointers j ≡ places.Hole = (whole.table.drafts (slice_index new.overlay.drafts.places ino) e.0 e.1).ends j (let same : blocks_of_shape e.0.shape ≡ blocks_of_shape d.shape = ap blocks_of_shape e.2 in omega arith) few in
+          ap (λ (x : Option NodeDraft). option_map (holding_of new.overlay.blocks) (option_map (λ (y : NodeDraft). where_is y.pointers j) x)) e.1 ∙ ap (λ p. Some (holding_of new.overlay.blocks p)) hole
