@@ -2,3 +2,6 @@ mod ChargeRoom
 mod UseChanges
 mod ShapeChanges
 mod DropSteps
+mod SegmentLemmas
+mod CountLemmas
+mod BlockSteps

@@ -61,7 +61,7 @@ module _ {M : Type 0} (v : StoreValue M) (shaped : IsShaped v) (whole : IsWholeO
     serial = l.serial;
     possible = l.possible;
     over = shaped_over (layout v) s.content c (overlaid v) (overlaid after) ino shape (shapes_now c s l);
-    tally = subst (IsTally (layout v) (overlaid after) s.content c) (sym (counted can.draft can.is (charge_room v c s shaped whole l)))
+    tally = subst (IsTally (layout v) (overlaid after) s.content c) (sym (counted can.draft can.is (charge_room (layout v) s.content c l.rests.has (overlaid v) (overlaid_whole v shaped whole) shaped.limits v.tally l.tally.charge)))
         (shape_tally (layout v) (overlaid v) (overlaid after) s.content c ino shape can.draft (shapes_now c s l) can.is v.tally l.tally);
   }
 

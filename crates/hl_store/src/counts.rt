@@ -86,7 +86,9 @@ impl Counts {
     )
         requires k { 0 < k }
         requires held { held ≤ 1 }
-        ensures { CountsBlock k i was.now before held is.now self.old self.new }
+        ensures counts { CountsBlock k i was.now before held is.now self.old self.new }
+        ensures numbers { self.new.in_use ≡ self.old.in_use }
+        ensures segments { length self.new.live ≡ length self.old.live }
     {
         let gone = self.charge_at(k, before) + far_charge(was);
         self.let_own_go(k, was);
@@ -143,8 +145,10 @@ impl Counts {
     /// What the first change of a draft lets go.
     fn let_own_go(&mut self, k: u32, was: &Footing)
         requires { 0 < k }
-        ensures { (d : Draft) → footing_of d ≡ was.now
-            → self.new ≡ record self.old { live = without_own k d self.old.live } }
+        ensures live { (d : Draft) → footing_of d ≡ was.now
+            → self.new.live ≡ without_own k d self.old.live }
+        ensures rest { self.new ≡ record self.old { live = self.new.live } }
+        ensures segments { length self.new.live ≡ length self.old.live }
     {
         if !was.changed {
             remove_live(k, &mut self.live, was.own);

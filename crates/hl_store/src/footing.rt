@@ -3,6 +3,7 @@
 ghost use Rattle.std.specs.Prelude.{◌≡◌, ◌<◌, Some, IsSome, length};
 ghost use Rattle.hl_overlay.specs.declared.draft.NodeDraft.{NodeDraft as Draft};
 ghost use Rattle.hl_overlay.specs.DraftTables.{draft_of};
+ghost use Rattle.hl_overlay.specs.Overlays.{IsWholeOverlay};
 ghost use Rattle.hl_store.specs.Footings.{footing_of};
 
 use hl_overlay::{NodeDraft, Overlay};
@@ -38,6 +39,7 @@ pub(crate) fn drafted_footing(overlay: &Overlay, ino: u32) -> Footing
     requires drafted { IsSome (draft_of overlay.now.drafts ino) }
     ensures value { (d : Draft) → draft_of overlay.now.drafts ino ≡ Some d → result ≡ footing_of d }
     ensures pointers { (d : Draft) → draft_of overlay.now.drafts ino ≡ Some d → length d.pointers ≡ 1036 }
+    ensures whole { IsWholeOverlay overlay.now }
 {
     match overlay.draft(ino) {
         Some(draft) => Footing::of(draft),
