@@ -5,3 +5,4 @@ mod DropSteps
 mod SegmentLemmas
 mod CountLemmas
 mod BlockSteps
+mod NodeChanges

@@ -78,7 +78,7 @@ impl<M: Machine> Store<M> {
         ensures uses { self.new.uses ≡ slice_set self.old.uses ino node.now.used }
     {
         self.drop_from(ino, blocks_of(node.size));
-        self.uses[ino as usize] = node.used;
+        self.touch(ino, node.used);
         let shape = Shape {
             kind: node.kind,
             size: node.size,
@@ -100,7 +100,8 @@ impl<M: Machine> Store<M> {
     /// Sets the last use of a number. Nothing is dirty by that.
     pub fn touch(&mut self, ino: u32, now: u64)
         requires number { IsNumber self.old ino }
-        ensures { Touches self.old self.new ino now }
+        ensures touches { Touches self.old self.new ino now }
+        ensures uses { self.new.uses ≡ slice_set self.old.uses ino now }
     {
         let _ = self.overlay.others();
         self.uses[ino as usize] = now;
