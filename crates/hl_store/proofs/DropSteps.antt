@@ -1,29 +1,25 @@
 -- Blocks of a drafted node are dropped one by one.
-use Rattle.std.proofs.Common.{◌≡◌, ◌≢◌, inl, inr, ℕ, ◌+◌, ◌<◌, ◌≤◌, true, length, Option, Some, None, refl, sym, ◌∙◌, ap, subst, arith}
-use Rattle.std.specs.Prelude.{slice_index, slice_set, option_map}
+use Rattle.std.proofs.Common.{◌≡◌, ◌≢◌, inl, inr, ℕ, ◌+◌, ◌<◌, ◌≤◌, true, Option, Some, None, refl, sym, ◌∙◌, ap, subst, arith}
+use Rattle.std.specs.Prelude.{slice_index, option_map}
 use Rattle.std.specs.FinMap.{get}
-use Rattle.std.proofs.lemmas.Bool.{cases_eq, cases_lt}
+use Rattle.std.proofs.lemmas.Bool.{cases_lt}
 use Rattle.std.proofs.lemmas.List.{get_or-set_other}
-use Rattle.hl_media.specs.History.{MachineState}
-use Rattle.hl_placed.specs.Blocks.{Block, Hole}
+use Rattle.hl_placed.specs.Blocks.{Hole}
 use Rattle.hl_paths.specs.Nodes.{FlatNode, Nodes}
-use Rattle.hl_nodes.specs.Contents.{Contents}
 use Rattle.hl_overlay.specs.declared.pointers.Pointer.{Pointer}
 use Rattle.hl_overlay.specs.declared.pointers.Pointer.TheVariants as places
 use Rattle.hl_overlay.specs.declared.draft.NodeDraft.{NodeDraft}
-use Rattle.hl_overlay.specs.declared.draft.Shape.{Shape}
 use Rattle.hl_overlay.specs.Pointing.{is_hole_pointer, where_is}
 use Rattle.hl_overlay.specs.Drafting.{blocks_of_shape}
 use Rattle.hl_overlay.specs.DraftTables.{HasBlock, draft_of}
 use Rattle.hl_overlay.specs.Overlays.{IsWholeOverlay, OverlayValue, holding, holding_of, where_in}
 use Rattle.hl_overlay.specs.Overlays.Holding.{Zeros}
-use Rattle.hl_overlaid.specs.NodesNow.{old_block, with_node}
+use Rattle.hl_overlaid.specs.NodesNow.{old_block}
 use Rattle.hl_overlaid.specs.Changes.{with_block}
 use Rattle.hl_overlaid.proofs.NowLemmas.{none_some, one, with_node-other, with_node-same}
 use Rattle.hl_overlaid.proofs.PutLemmas.{mapped}
 use Rattle.hl_store.specs.Values.{StoreValue, layout, nodes_of}
-use Rattle.hl_store.specs.Lying.{LiesOver, block_of_number}
-use Rattle.hl_store.specs.Changes.{Always, DropsBetween, KeepsBeside, KeepsShapes, PutsInto, drafted_shape}
+use Rattle.hl_store.specs.Changes.{Always, DropsBetween, KeepsBeside, KeepsShapes, PutsInto}
 
 -- another block of a node stays where one is a hole
 other_block : (node : Option FlatNode) (i used j : ℕ) → j ≢ i → old_block (option_map (λ n. with_block n i Hole used) node) j ≡ old_block node j

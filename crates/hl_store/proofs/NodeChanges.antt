@@ -1,6 +1,6 @@
 -- Calls that change the node of one number, one behind the other.
-use Rattle.std.proofs.Common.{◌≡◌, ◌≢◌, ◌⊎◌, inl, inr, ℕ, ◌+◌, ◌<◌, ◌≤◌, Bool, true, false, true≢false, length, List, Option, Some, None, IsSome, is_some, refl, sym, ◌∙◌, ap, subst, arith}
-use Rattle.std.specs.Prelude.{slice_index, option_map}
+use Rattle.std.proofs.Common.{◌≡◌, ◌≢◌, inl, inr, ℕ, ◌<◌, ◌≤◌, Bool, true, false, true≢false, List, Option, Some, None, IsSome, refl, sym, ◌∙◌, ap, subst, arith}
+use Rattle.std.specs.Prelude.{option_map}
 use Rattle.std.specs.Option.{ForSome}
 use Rattle.std.specs.FinMap.{get}
 use Rattle.std.proofs.lemmas.Bool.{cases_eq}
@@ -14,12 +14,11 @@ use Rattle.hl_paths.specs.Nodes.{FlatNode, Nodes}
 use Rattle.hl_nodes.specs.Contents.{Contents}
 use Rattle.hl_overlay.specs.declared.draft.NodeDraft.{NodeDraft}
 use Rattle.hl_overlay.specs.declared.draft.Shape.{Shape}
-use Rattle.hl_overlay.specs.declared.pointers.Pointer.TheVariants as places
 use Rattle.hl_overlay.specs.Making.{used_of}
-use Rattle.hl_overlay.specs.Pointing.{AreHoles, where_is}
+use Rattle.hl_overlay.specs.Pointing.{where_is}
 use Rattle.hl_overlay.specs.Drafting.{blocks_of_shape}
 use Rattle.hl_overlay.specs.DraftTables.{CanShape, draft_of}
-use Rattle.hl_overlay.specs.Overlays.{holding, holding_of}
+use Rattle.hl_overlay.specs.Overlays.{holding_of}
 use Rattle.hl_overlay.specs.Overlays.Holding.{Zeros}
 use Rattle.hl_overlaid.specs.NodesNow.{old_block, with_node}
 use Rattle.hl_overlaid.specs.Changes.{KeepsKind, node_used, reshaped}

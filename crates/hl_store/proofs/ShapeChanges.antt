@@ -1,5 +1,5 @@
 -- A drafted number is of another shape, or of none.
-use Rattle.std.proofs.Common.{◌≡◌, ◌≢◌, ℕ, ◌<◌, length, Option, Some, refl, sym, ◌∙◌, ap, subst}
+use Rattle.std.proofs.Common.{◌≡◌, ℕ, ◌<◌, Option, Some, refl, sym, ◌∙◌, ap, subst}
 use Rattle.std.specs.Prelude.{slice_index, option_map}
 use Rattle.hl_media.specs.History.{MachineState}
 use Rattle.hl_nodes.specs.Contents.{Contents}

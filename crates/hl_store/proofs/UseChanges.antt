@@ -1,5 +1,5 @@
 -- A number is used at another moment.
-use Rattle.std.proofs.Common.{◌≡◌, ◌≢◌, ℕ, ◌<◌, List, length, Some, refl, sym, subst, ◌∙◌}
+use Rattle.std.proofs.Common.{◌≡◌, ℕ, ◌<◌, refl, sym, subst}
 use Rattle.std.specs.Prelude.{slice_index, slice_set, option_map}
 use Rattle.std.specs.FinMap.{get}
 use Rattle.std.proofs.lemmas.List.{get_or-set_other, get_or-set_same}
@@ -7,7 +7,7 @@ use Rattle.hl_media.specs.History.{MachineState}
 use Rattle.hl_nodes.specs.Contents.{Contents}
 use Rattle.hl_overlay.specs.Overlays.{IsWholeOverlay}
 use Rattle.hl_overlaid.specs.NodesNow.{IsOverlaid, with_node}
-use Rattle.hl_overlaid.specs.Changes.{IsChangedDraft, KeepsOtherUses, node_used}
+use Rattle.hl_overlaid.specs.Changes.{KeepsOtherUses, node_used}
 use Rattle.hl_overlaid.proofs.UseLemmas.{use_over, use_shows, use_waits}
 use Rattle.hl_tally.proofs.ReachLaws.{uses_tally}
 use Rattle.hl_store.specs.Values.{StoreValue, layout, nodes_of, overlaid}

@@ -1,9 +1,8 @@
-use Rattle.std.proofs.Common.{◌≡◌, ◌<◌, ◌≤◌, Some, ◌∙◌, ap, sym, subst, arith}
+use Rattle.std.proofs.Common.{◌≡◌, ◌<◌, ◌≤◌, Some, sym, subst, arith}
 use Rattle.hl_overlay.specs.DraftTables.{draft_of}
 use Rattle.hl_overlay.specs.Drafting.{blocks_of_shape}
 use Rattle.hl_overlay.specs.Overlays.{IsWholeOverlay}
 use Rattle.hl_store.specs.Values.{StoreValue, layout}
-use Rattle.hl_store.specs.Shapes.{IsNumber}
 use Rattle.hl_store.proofs.DropSteps.{all_dropped, block_there, more_dropped, none_dropped}
 use Rattle.hl_store.proofs.store.Store.drop_from.Goals as goal
 

@@ -1,4 +1,4 @@
-use Rattle.std.proofs.Common.{◌≡◌, Some, ◌∙◌, ap, sym, subst, refl}
+use Rattle.std.proofs.Common.{◌≡◌, Some, ◌∙◌, ap, sym, subst}
 use Rattle.hl_addr.specs.Layout.{Layout}
 use Rattle.hl_overlaid.proofs.NowLemmas.{one}
 use Rattle.hl_overlay.specs.declared.draft.NodeDraft.{NodeDraft}

@@ -1,4 +1,4 @@
-use Rattle.std.proofs.Common.{◌≡◌, ◌≤◌, Some, ap, sym, subst, refl}
+use Rattle.std.proofs.Common.{◌≡◌, ◌≤◌, Some, sym, subst, refl}
 use Rattle.hl_overlay.specs.declared.draft.NodeDraft.{NodeDraft}
 use Rattle.hl_overlay.specs.declared.draft.Shape.{Shape}
 use Rattle.hl_placed.specs.Blocks.{blocks_of}
@@ -13,12 +13,12 @@ use Rattle.hl_store.proofs.store.Store.set_node.Goals as goal
 pub reshape-requires-clause-can : goal.reshape-requires-clause-can
 reshape-requires-clause-can g c =
     let drops = subst (λ n. DropsBetween c.args.self.now c.drop_from.new.self c.args.ino n 1036) c.blocks_of.ensures.value c.drop_from.ensures in
-    subst (λ (x : StoreValue g.row.M.Denot). CanShape x.overlay.drafts c.args.ino (Some (shape_of c.args.node.now))) (sym c.touch.ensures.touches.same)
+    rw c.touch.ensures.touches.same
     (can_shape c.args.self.now c.drop_from.new.self c.args.ino (Some (shape_of c.args.node.now)) c.requires.number.high c.requires.prepared (λ s is. subst (λ (x : Shape). x.size ≤ 4243456) (one refl is) c.requires.size) drops)
 
 pub reshape-requires-clause-kind : goal.reshape-requires-clause-kind
 reshape-requires-clause-kind g c =
-    subst (λ (x : StoreValue g.row.M.Denot). (d : NodeDraft) → draft_of x.overlay.drafts c.args.ino ≡ Some d → KeepsKind d (Some (shape_of c.args.node.now))) (sym c.touch.ensures.touches.same)
+    rw c.touch.ensures.touches.same
     (keeps_kind c.args.self.now c.drop_from.new.self c.args.ino c.args.node.now.size c.args.node.now.kind c.requires.number.high c.drop_from.ensures.shapes c.requires.kind)
 
 pub returns-clause-shape : goal.returns-clause-shape

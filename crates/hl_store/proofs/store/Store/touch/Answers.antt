@@ -1,8 +1,3 @@
-use Rattle.std.proofs.Common.{subst}
-use Rattle.std.specs.Prelude.{slice_set}
-use Rattle.hl_store.specs.Values.{StoreValue}
-use Rattle.hl_store.specs.Shapes.{IsNumber}
-use Rattle.hl_store.specs.Changes.{Touches}
 use Rattle.hl_store.proofs.UseChanges.{touched}
 use Rattle.hl_store.proofs.store.Store.touch.Goals as goal
 
