@@ -92,9 +92,10 @@ module _ {M : Type 0} where
               (λ q ne. ap (λ (m : Nodes). get m q) same, λ j. ap (λ (m : Nodes). old_block (get m ino) j) same))
           by true e = (
               let shows = t.shows c s l (d, at, e) in
-              let node = option_map (node_used used) (get (nodes_of old c) ino) in
-              (λ q ne. ap (λ (m : Nodes). get m q) shows ∙ with_node-other (nodes_of old c) ino node q ne,
-               λ j. ap (λ (m : Nodes). old_block (get m ino) j) shows ∙ ap (λ n. old_block n j) (with_node-same (nodes_of old c) ino node) ∙ used_block used j (get (nodes_of old c) ino)))
+              let node = option_map (node_used used) (get (nodes_of old c) ino) in (
+                λ q ne. ap (λ (m : Nodes). get m q) shows ∙ with_node-other (nodes_of old c) ino node q ne,
+                λ j. ap (λ (m : Nodes). old_block (get m ino) j) shows ∙ ap (λ n. old_block n j) (with_node-same (nodes_of old c) ino node) ∙ used_block used j (get (nodes_of old c) ino),
+              ))
 
   -- one behind the other
   pub both_below : (old mid new : StoreValue M) (ino from : ℕ) → KeepsBelow old mid ino from → KeepsBelow mid new ino from → KeepsBelow old new ino from

@@ -22,9 +22,9 @@ drop_block-requires-clause-block g c =
 
 pub blocks-2-preserved : goal.blocks-2-preserved
 blocks-2-preserved g c = (
-    let low = c.blocks-2.invariant.0 in omega arith,
-    more_dropped c.args.self.now c.blocks-2.self c.drop_block.new.self c.args.ino c.args.from c.blocks-2.i c.blocks-2.invariant.0 c.blocks-2.invariant.1 c.drop_block.ensures,
-  )
+  let low = c.blocks-2.invariant.0 in omega arith,
+  more_dropped c.args.self.now c.blocks-2.self c.drop_block.new.self c.args.ino c.args.from c.blocks-2.i c.blocks-2.invariant.0 c.blocks-2.invariant.1 c.drop_block.ensures,
+)
 
 pub returns : goal.returns
 returns g c =

@@ -1,11 +1,7 @@
-use Rattle.std.proofs.Common.{◌≡◌, ◌≤◌, Some, sym, subst, refl}
-use Rattle.hl_overlay.specs.declared.draft.NodeDraft.{NodeDraft}
+use Rattle.std.proofs.Common.{◌≤◌, Some, subst, refl}
 use Rattle.hl_overlay.specs.declared.draft.Shape.{Shape}
 use Rattle.hl_placed.specs.Blocks.{blocks_of}
-use Rattle.hl_overlay.specs.DraftTables.{CanShape, draft_of}
-use Rattle.hl_overlaid.specs.Changes.{KeepsKind}
 use Rattle.hl_overlaid.proofs.NowLemmas.{one}
-use Rattle.hl_store.specs.Values.{StoreValue}
 use Rattle.hl_store.specs.Changes.{DropsBetween, Reshapes, shape_of}
 use Rattle.hl_store.proofs.NodeChanges.{both_below, can_shape, dropped_below, keeps_kind, reshaped_behind, touched_below}
 use Rattle.hl_store.proofs.store.Store.set_node.Goals as goal
@@ -28,6 +24,6 @@ returns-clause-shape g c =
     let count = blocks_of c.args.node.now.size in
     reshaped_behind c.args.self.now c.touch.new.self c.reshape.new.self c.args.ino c.args.node.now.used shape
     (both_below c.args.self.now c.drop_from.new.self c.touch.new.self c.args.ino count
-      (dropped_below c.args.self.now c.drop_from.new.self c.args.ino count 1036 drops)
-      (touched_below c.drop_from.new.self c.touch.new.self c.args.ino c.args.node.now.used count c.touch.ensures.touches))
+    (dropped_below c.args.self.now c.drop_from.new.self c.args.ino count 1036 drops)
+    (touched_below c.drop_from.new.self c.touch.new.self c.args.ino c.args.node.now.used count c.touch.ensures.touches))
     (subst (λ u. Reshapes c.touch.new.self c.reshape.new.self c.args.ino u shape) c.touch.ensures.touches.own c.reshape.ensures.shape)
