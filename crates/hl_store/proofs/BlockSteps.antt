@@ -1,17 +1,15 @@
 -- One block of a drafted node has something else.
-use Rattle.std.proofs.Common.{◌≡◌, ◌≢◌, inl, inr, ℕ, ◌<◌, length, List, Option, Some, None, option_map, refl, sym, ◌∙◌, ap, subst}
+use Rattle.std.proofs.Common.{◌≡◌, inl, inr, ℕ, ◌<◌, length, Option, Some, None, option_map, refl, sym, ◌∙◌, ap, subst}
 use Rattle.std.specs.Prelude.{slice_index}
 use Rattle.std.specs.FinMap.{get}
 use Rattle.std.proofs.lemmas.Bool.{cases_eq}
 use Rattle.hl_media.specs.History.{MachineState}
-use Rattle.hl_addr.specs.Layout.{Layout}
-use Rattle.hl_placed.specs.Blocks.{Block, Hole}
-use Rattle.hl_paths.specs.Nodes.{FlatNode, Nodes}
+use Rattle.hl_placed.specs.Blocks.{Block}
+use Rattle.hl_paths.specs.Nodes.{FlatNode}
 use Rattle.hl_nodes.specs.Contents.{Contents}
 use Rattle.hl_overlay.specs.declared.pointers.Pointer.{Pointer}
 use Rattle.hl_overlay.specs.declared.pointers.Pointer.TheVariants as pointers
 use Rattle.hl_overlay.specs.declared.draft.NodeDraft.{NodeDraft}
-use Rattle.hl_overlay.specs.declared.draft.Shape.{Shape}
 use Rattle.hl_overlay.specs.Pointing.{where_is}
 use Rattle.hl_overlay.specs.Drafting.{with_pointer}
 use Rattle.hl_overlay.specs.DraftTables.{DraftTable, HasBlock, draft_of}
@@ -28,7 +26,7 @@ use Rattle.hl_store.specs.Values.{StoreValue, layout, nodes_of, overlaid}
 use Rattle.hl_store.specs.Shapes.{IsNumber, IsShaped}
 use Rattle.hl_store.specs.Lying.{LiesOver}
 use Rattle.hl_store.specs.Footings.{HasChargeRoom}
-use Rattle.hl_store.specs.Changes.{ChangesNode, KeepsShapes, PutsInto, drafted_shape}
+use Rattle.hl_store.specs.Changes.{KeepsShapes, PutsInto, drafted_shape}
 use Rattle.hl_store.proofs.ChargeRoom.{charge_room}
 
 -- drafts that differ in nothing but their pointers are of one shape

@@ -1,5 +1,5 @@
 -- What a site's nodes are charged has room in 32 bits.
-use Rattle.std.proofs.Common.{◌≡◌, ◌≢◌, inl, inr, ℕ, zero, suc, ◌+◌, ◌*◌, ◌<◌, ◌≤◌, ◌^◌, Bool, true, false, List, [], ◌∷◌, length, Option, Some, None, refl, sym, ◌∙◌, ap, subst, arith}
+use Rattle.std.proofs.Common.{◌≡◌, inl, inr, ℕ, zero, suc, ◌+◌, ◌*◌, ◌<◌, ◌≤◌, Bool, true, false, List, [], ◌∷◌, length, Option, Some, None, refl, sym, ◌∙◌, ap, subst, arith}
 use Rattle.std.specs.Prelude.{if◌then◌else◌, slice_index, option_map, drop, not}
 use Rattle.std.specs.List.{count_by, list_any, sum_by}
 use Rattle.std.specs.FinMap.{empty, entries, get, get-empty, len-empty, len-entries}
@@ -11,15 +11,15 @@ use Rattle.hl_addr.specs.Layout.{IsWithinLimits, Layout}
 use Rattle.hl_placed.specs.Blocks.{Block, blocks_of, is_here, is_hole, listed}
 use Rattle.hl_placed.specs.Charges.{blocks_charge, parts_charge}
 use Rattle.hl_paths.specs.Nodes.{FlatNode, Nodes, flat_charge}
-use Rattle.hl_nodes.specs.Nodes.{IsMapEntry, IsNodeAt}
+use Rattle.hl_nodes.specs.Nodes.{IsMapEntry}
 use Rattle.hl_nodes.specs.Contents.{Contents, HasContents}
 use Rattle.hl_overlay.specs.declared.draft.NodeDraft.{NodeDraft}
 use Rattle.hl_overlay.specs.declared.draft.Shape.{Shape}
 use Rattle.hl_overlay.specs.Drafting.{IsDraft, blocks_of_shape}
 use Rattle.hl_overlay.specs.DraftTables.{draft_of}
 use Rattle.hl_overlay.proofs.TableLemmas.{blocks_most, is_draft_of}
-use Rattle.hl_overlaid.specs.NodesNow.{IsOverlaid, Overlaid, draft_node, drafted_now, nodes_now, shaped_node, with_node}
-use Rattle.hl_overlaid.proofs.NowLemmas.{now_drafted, now_past, now_zero, same_nodes, with_node-other, with_node-same}
+use Rattle.hl_overlaid.specs.NodesNow.{IsOverlaid, Overlaid, draft_node, nodes_now, shaped_node, with_node}
+use Rattle.hl_overlaid.proofs.NowLemmas.{now_drafted, now_past, same_nodes, with_node-other, with_node-same}
 use Rattle.hl_tally.specs.Tally.{Tally}
 use Rattle.hl_tally.proofs.BlockCharges.{listed_length}
 use Rattle.hl_tally.proofs.DraftCharges.{draft_block}
@@ -42,14 +42,14 @@ charge_most most zero m none each = (let e : flat_charge m ≡ 0 = ap flat_charg
 charge_most most (suc n) m none each =
     let less = with_node m n None in
     let rest : flat_charge less ≤ n * most = charge_most most n less
-        (λ q le. elim (cases_eq q n) [
-          | inl e ↦ ap (get less) e ∙ with_node-same m n None
-          | inr ne ↦ with_node-other m n None q ne ∙ none q (omega arith)
-        ])
-        (λ q. elim (cases_eq q n) [
-          | inl e ↦ (let no : charged (get less q) ≡ 0 = ap charged (ap (get less) e ∙ with_node-same m n None) in omega arith)
-          | inr ne ↦ subst (λ (x : Option FlatNode). charged x ≤ most) (sym (with_node-other m n None q ne)) (each q)
-        ]) in
+    (λ q le. elim (cases_eq q n) [
+      | inl e ↦ ap (get less) e ∙ with_node-same m n None
+      | inr ne ↦ with_node-other m n None q ne ∙ none q (omega arith)
+    ])
+    (λ q. elim (cases_eq q n) [
+      | inl e ↦ (let no : charged (get less q) ≡ 0 = ap charged (ap (get less) e ∙ with_node-same m n None) in omega arith)
+      | inr ne ↦ subst (λ (x : Option FlatNode). charged x ≤ most) (sym (with_node-other m n None q ne)) (each q)
+    ]) in
     let whole : flat_charge less + charged (get m n) ≡ flat_charge m + charged (get less n) = charge_replaced m less n (λ q ne. with_node-other m n None q ne) in
     let one : charged (get m n) ≤ most = each n in
     let gone : charged (get less n) ≡ 0 = ap charged (with_node-same m n None) in

@@ -1,5 +1,5 @@
 -- The segment of the slot that an address lies in.
-use Rattle.std.proofs.Common.{◌≡◌, ◌<◌, ◌≤◌, inl, inr, ℕ, length, Option, Some, None, refl, sym, ◌∙◌, ap, subst}
+use Rattle.std.proofs.Common.{◌≡◌, ◌≢◌, ◌<◌, ◌≤◌, inl, inr, ℕ, length, Some, None, sym, ◌∙◌, ap, subst}
 use Rattle.std.specs.Prelude.{slice_get}
 use Rattle.std.proofs.lemmas.Bool.{cases_lt}
 use Rattle.std.proofs.lemmas.List.{get_or_past}
@@ -8,7 +8,7 @@ use Rattle.hl_addr.specs.Layout.{Layout, data_max}
 use Rattle.hl_addr.specs.Place.{IsAt}
 use Rattle.hl_addr.specs.Slots.{slot_number}
 use Rattle.hl_addr.specs.declared.place.Place.{Place}
-use Rattle.hl_addr.specs.declared.place.Place.TheVariants.{Tertiary}
+use Rattle.hl_addr.specs.declared.place.Place.TheVariants.{Nothing, Tertiary}
 use Rattle.hl_tseg.specs.SlotTable.{SlotTable, slot_at}
 use Rattle.hl_tseg.specs.Slots.{HoldsSerial, serial_of}
 use Rattle.hl_tseg.specs.declared.slot.Slot.{Slot}
@@ -37,6 +37,13 @@ held_there t n serial holds = elim (cases_lt n (length t.slots)) [
   | inr ge ↦ absurd (no_serial (sym (ap serial_of (get_or_past t.slots n Free ge)) ∙ holds))
 ]
 
+-- the address of a slot isn't the one that stands for none
+pub not_nothing : (layout : Layout) (addr : ℕ) (place : Place) → ((p : Place) → IsAt layout addr p → p ≡ place) → (volume slot block : ℕ) → place ≡ Tertiary volume slot block → addr ≢ 4294967295
+not_nothing layout addr place only volume slot block is none = apart (only Nothing none ∙ is)
+  where
+    apart : Nothing ≡ Tertiary volume slot block → ⊥
+    apart e = cc
+
 module _ (g layout : Layout) (t slots : SlotTable) (addr serial position : ℕ) (lies : LiesAway g t addr serial position) (layout_is : layout ≡ g) (slots_is : slots ≡ t) (place : Place) (only : (p : Place) → IsAt layout addr p → p ≡ place) where
   pub place_is : Tertiary lies.volume lies.slot position ≡ place
   place_is = only (Tertiary lies.volume lies.slot position) (subst (λ (l : Layout). IsAt l addr (Tertiary lies.volume lies.slot position)) (sym layout_is) lies.place)
@@ -58,6 +65,10 @@ module _ (g layout : Layout) (t slots : SlotTable) (addr serial position : ℕ) 
       module _ (held : Slot) (held_is : slice_get slots.slots n ≡ Some held) where
         pub holds : HoldsSerial held serial
         holds = subst (λ (x : Slot). HoldsSerial x serial) (get_or_from_slice_get slots.slots n held Free held_is) holds_there
+
+        -- it is the segment that the slot holds, at that block
+        pub same_segment : (s : ℕ) → serial_of held ≡ Some s → (serial ≡ s) × (position ≡ block)
+        same_segment s s_is = (same_some (sym holds ∙ s_is), same_block same)
 
         -- the address lies in the segment that the slot holds
         pub lies_in : (s : ℕ) → serial_of held ≡ Some s → LiesAway g t addr s block

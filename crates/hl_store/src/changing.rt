@@ -110,7 +110,11 @@ impl<M: Machine> Store<M> {
     /// The serial of the segment that the slot at an address holds, and the block of it.
     fn segment_at(&self, addr: u32) -> (u64, u32)
         requires { HasSegmentAt self.now addr }
-        ensures { LiesAway (layout self.now) self.now.tables.slots addr result.0 result.1 }
+        ensures lies { LiesAway (layout self.now) self.now.tables.slots addr result.0 result.1 }
+        ensures only { (serial position : ℕ)
+            → LiesAway (layout self.now) self.now.tables.slots addr serial position
+            → (serial ≡ result.0) × (position ≡ result.1) }
+        ensures there { addr ≢ 4294967295 }
     {
         let geometry = self.log.geometry();
         let Place::Tertiary {

@@ -1,4 +1,4 @@
-use Rattle.std.proofs.Common.{ℕ, ◌≤◌, ◌-◌, length}
+use Rattle.std.proofs.Common.{◌≤◌, ◌-◌, length}
 use Rattle.hl_store.specs.Numbers.{AreAllUsed}
 use Rattle.hl_store.proofs.in_use.next_free.Given as goal
 

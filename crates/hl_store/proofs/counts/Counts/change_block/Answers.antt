@@ -1,4 +1,4 @@
-use Rattle.std.proofs.Common.{◌≡◌, ◌-◌, ◌+◌, ◌≤◌, ℕ, List, length, sym, ◌∙◌, ap, arith}
+use Rattle.std.proofs.Common.{◌≡◌, ◌-◌, ◌+◌, ℕ, List, sym, ◌∙◌, ap}
 use Rattle.std.proofs.lemmas.List.{with_items_is}
 use Rattle.hl_overlay.specs.declared.pointers.Pointer.{Pointer}
 use Rattle.hl_overlay.specs.Pointing.{where_is}
@@ -44,15 +44,15 @@ returns-clause-counts c = λ g h d e k_is log_is held_is was_is before_is is_is 
     let own_charge : c.self.inside.charge ≡ old.charge = ap (λ x. x.charge) c.self.view_is ∙ ap (λ x. x.charge) own.rest in
     let own_in_use : c.self.inside.in_use ≡ old.in_use = ap (λ x. x.in_use) c.self.view_is ∙ ap (λ x. x.in_use) own.rest in
     let charged : c.saturating_sub-self-inside.result ≡ (old.charge + (c.args.held + c.far_charge-2.result)) - (c.charge_at.result + c.far_charge.result) =
-        charge_reckoned c.saturating_sub-self-inside.result c.saturating_add.result c.match-before.self-inside.charge c.args.held c.far_charge-2.result c.charge_at.result c.far_charge.result old.charge
-        c.saturating_add.ensures c.saturating_sub-self-inside.ensures (then_charge ∙ at_charge ∙ own_charge) room c.requires.held c.far_charge-2.ensures.most in
+    charge_reckoned c.saturating_sub-self-inside.result c.saturating_add.result c.match-before.self-inside.charge c.args.held c.far_charge-2.result c.charge_at.result c.far_charge.result old.charge
+    c.saturating_add.ensures c.saturating_sub-self-inside.ensures (then_charge ∙ at_charge ∙ own_charge) room c.requires.held c.far_charge-2.ensures.most in
     tally_same _ _
     (then_in_use ∙ at_first ∙ own_in_use)
     (charged
-      ∙ ap (λ (n : ℕ). (old.charge + (n + c.far_charge-2.result)) - (c.charge_at.result + c.far_charge.result)) (sym held_is)
-      ∙ ap (λ (n : ℕ). (old.charge + (charge_held h + n)) - (c.charge_at.result + c.far_charge.result)) (c.far_charge-2.ensures.value e is_is)
-      ∙ ap (λ (n : ℕ). (old.charge + (charge_held h + far_charge e)) - (n + c.far_charge.result)) (c.charge_at.ensures.value g k_is log_is ∙ sym (ap (charge_at g) before_is))
-      ∙ ap (λ (n : ℕ). (old.charge + (charge_held h + far_charge e)) - (charge_at g (where_is d.pointers i) + n)) (c.far_charge.ensures.value d was_is))
+    ∙ ap (λ (n : ℕ). (old.charge + (n + c.far_charge-2.result)) - (c.charge_at.result + c.far_charge.result)) (sym held_is)
+    ∙ ap (λ (n : ℕ). (old.charge + (charge_held h + n)) - (c.charge_at.result + c.far_charge.result)) (c.far_charge-2.ensures.value e is_is)
+    ∙ ap (λ (n : ℕ). (old.charge + (charge_held h + far_charge e)) - (n + c.far_charge.result)) (c.charge_at.ensures.value g k_is log_is ∙ sym (ap (charge_at g) before_is))
+    ∙ ap (λ (n : ℕ). (old.charge + (charge_held h + far_charge e)) - (charge_at g (where_is d.pointers i) + n)) (c.far_charge.ensures.value d was_is))
     (then_live ∙ ap (without_block k before) at_live ∙ ap (λ (l : List ℕ). without_block k before (without_pointer_block k d i l)) own_live
-      ∙ sym (ap (λ (p : Pointer). without_block k p (without_pointer_block k d i (without_own k d old.live))) before_is)
-      ∙ sym (ap (λ (n : ℕ). without_block n (where_is d.pointers i) (without_pointer_block n d i (without_own n d old.live))) k_is))
+    ∙ sym (ap (λ (p : Pointer). without_block k p (without_pointer_block k d i (without_own k d old.live))) before_is)
+    ∙ sym (ap (λ (n : ℕ). without_block n (where_is d.pointers i) (without_pointer_block n d i (without_own n d old.live))) k_is))

@@ -1,10 +1,9 @@
-use Rattle.std.proofs.Common.{◌≡◌, refl, sym, ◌∙◌, ap}
+use Rattle.std.proofs.Common.{refl, sym, ◌∙◌, ap}
 use Rattle.hl_addr.specs.Layout.{Layout}
 use Rattle.hl_placed.specs.Blocks as blocks
 use Rattle.hl_overlay.specs.Overlays.Holding.{Zeros}
-use Rattle.hl_store.specs.Values.{layout}
 use Rattle.hl_store.specs.Changes.{Always}
-use Rattle.hl_store.proofs.BlockSteps.{IsBlockStep, block_changed, where_is_of}
+use Rattle.hl_store.proofs.BlockSteps.{block_changed, where_is_of}
 use Rattle.hl_store.proofs.store.Store.clear.Goals as goal
 
 pub returns-clause-puts : goal.returns-clause-puts
