@@ -1,13 +1,18 @@
-pub mod LayLemmas
-pub mod SiteRecords
+mod LayLemmas
+mod SiteRecords
+mod ChargeRoom
+mod UseChanges
+mod ShapeChanges
+mod DropSteps
 mod SegmentLemmas
 mod CountLemmas
-mod ChargeRoom
 mod BlockSteps
 mod ReadRuns
 mod DraftReads
 mod SeatLemmas
-pub mod RunPairs
-pub mod FlushLemmas
-pub mod FlushedLemmas
-pub mod QuietLemmas
+mod RunPairs
+mod FlushLemmas
+mod FlushedLemmas
+mod QuietLemmas
+mod NodeChanges
+mod WriteLemmas
