@@ -73,7 +73,7 @@ module _ {M : Type 0} (v : StoreValue M) (shaped : IsShaped v) (whole : IsWholeO
 
   module _ (at_is : q ≡ moved v.log.at q.head q.serial)
       (laid : t ≡ fold changed (blocks_placed v.tables (records_of bs) plan) (freed_of v.overlay.drafts.items)) (empty : o.drafts.items ≡ []) where
-    slots_same : t.slots ≡ v.tables.slots
+    pub slots_same : t.slots ≡ v.tables.slots
     slots_same = ap (λ (x : TableValues). x.slots) laid ∙ freed_slots (blocks_placed v.tables (records_of bs) plan) v.overlay.drafts.items ∙ placed_slots v.tables (records_of bs) plan
 
     module _ (c : Contents) (first : MachineState) (lies : LiesOver v c first) where

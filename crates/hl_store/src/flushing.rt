@@ -19,7 +19,7 @@ ghost use Rattle.hl_overlay.specs.Overlays.{IsWholeOverlay, unit_blocks};
 ghost use Rattle.hl_overlaid.specs.Units.{brought_by, unit_changes};
 
 use crate::counts::Counts;
-use crate::store::Store;
+use crate::store::{Store, not_taken};
 use hl_addr::NOTHING;
 use hl_bytes::{BlockRecord, TableRecord};
 use hl_log::{Log, Unit, UnitAnswer};
@@ -191,7 +191,7 @@ impl<M: Machine> Store<M> {
         let made = self
             .overlay
             .make(alloc, plan, self.uses.as_slice(), changes);
-        let clean = &self.clean.as_slice()[self.taken..];
+        let clean = not_taken(&self.clean, self.taken);
         let answer = write_made(
             &mut self.log,
             &mut self.tables,
