@@ -1,3 +1,4 @@
 mod ReadRuns
 mod DraftReads
 mod SeatLemmas
+mod AddressReads
