@@ -2,3 +2,5 @@ mod ReadRuns
 mod DraftReads
 mod SeatLemmas
 mod AddressReads
+mod FoundNodes
+mod FoundBlocks

@@ -141,8 +141,8 @@ module _ {M : Type 0} where
 
   -- A number that is drafted gets room.
   pub roomed_seats : (history : M → Option History) (self t new : StoreValue M) (ino count : ℕ) (o : OverlayValue) → t ≡ self → new ≡ with_overlay t t.log.machine o → o ≡ record t.overlay { room = t.overlay.room + count }
-      → IsSome (draft_of t.overlay.drafts ino) → Seats history self new ino count
-  roomed_seats history self t new ino count o view_is new_is is there =
+      → IsShaped t → IsWholeOverlay t.overlay → IsSome (draft_of t.overlay.drafts ino) → Seats history self new ino count
+  roomed_seats history self t new ino count o view_is new_is is shaped was there =
       subst (λ (x : StoreValue M). Seats history x new ino count) view_is
       (subst (λ (x : StoreValue M). Seats history t x ino count) (sym new_is) (record {
         reads = record {
@@ -154,6 +154,7 @@ module _ {M : Type 0} where
         };
         drafted = subst (λ (x : OverlayValue). IsSome (draft_of x.drafts ino)) (sym is) there;
         room = ap (λ (x : OverlayValue). x.room) is;
+        whole = subst (λ (x : OverlayValue). IsOverlaid (layout t) (overlaid (with_overlay t t.log.machine x))) (sym is) (record { table = was.table; named = was.named; numbers = shaped.drafts; each_use = shaped.uses });
       }))
 
   -- A number that isn't drafted gets the draft that was read, and room.
@@ -173,6 +174,7 @@ module _ {M : Type 0} where
         };
         drafted = some_is (draft_of o.drafts ino) d (ap (draft_of o.drafts) (sym number) ∙ redrafts.drafted);
         room = room;
+        whole = overlaid_is t l.machine o shaped whole redrafts.numbers;
       }))
     where
       new_is : new ≡ with_overlay t l.machine o

@@ -9,7 +9,7 @@ pub returns-in_err-reserve-clause-machine : goal.returns-in_err-reserve-clause-m
 returns-in_err-reserve-clause-machine g c = subst (λ (v : StoreValue g.row.M.Denot). OnlyReads {M = g.row.M.Denot} g.M.Machine.history g.M.Machine.blocks g.M.Machine.faults g.M.Machine.write_faults g.M.Machine.say_faults v.log.machine c.self.inside.log.machine) c.self.view_is reads_none
 
 pub returns-in_ok-reserve-clause-ok : goal.returns-in_ok-reserve-clause-ok
-returns-in_ok-reserve-clause-ok g c = roomed_seats {M = g.row.M.Denot} g.M.Machine.history _ _ _ c.args.ino c.args.count c.reserve.new.self c.self.view_is refl c.in_ok-reserve.ensures.ok (found_some c.draft.result _ (sym c.if-is_some.ensures) c.draft.ensures.value)
+returns-in_ok-reserve-clause-ok g c = roomed_seats {M = g.row.M.Denot} g.M.Machine.history _ _ _ c.args.ino c.args.count c.reserve.new.self c.self.view_is refl c.in_ok-reserve.ensures.ok c.self.invariant.shape c.draft.ensures.whole (found_some c.draft.result _ (sym c.if-is_some.ensures) c.draft.ensures.value)
 
 pub returns-in_ok-reserve-clause-machine : goal.returns-in_ok-reserve-clause-machine
 returns-in_ok-reserve-clause-machine g c = subst (λ (v : StoreValue g.row.M.Denot). OnlyReads {M = g.row.M.Denot} g.M.Machine.history g.M.Machine.blocks g.M.Machine.faults g.M.Machine.write_faults g.M.Machine.say_faults v.log.machine c.self.inside.log.machine) c.self.view_is reads_none
