@@ -71,7 +71,7 @@ module _ {M : Type 0} (history : M → Option History) (old new : StoreValue M) 
     pub block_is : (i : ℕ) → i < 1036 → (now : Holding) → holding new.overlay ino i ≡ Some now → block_of_number old c ino i ≡ block_held (old_block (get c.nodes ino) i) now
     block_is i few now held = ap (λ ns. old_block (get ns ino) i) (sym keeps.nodes) ∙ now_held (layout new) (state_now h).content c (overlaid new) keeps.over.rests.has seats.whole keeps.over.over ino high_now there.0 there.1 i few now held
 
-    is_draft : IsDraft there.0
+    pub is_draft : IsDraft there.0
     is_draft = is_draft_of new.overlay.drafts ino there.0 seats.whole.table there.1
 
     places : ino < length new.overlay.drafts.places
