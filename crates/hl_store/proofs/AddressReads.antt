@@ -1,12 +1,12 @@
 -- What is read at an address.
-use Rattle.std.proofs.Common.{◌≡◌, ◌⊎◌, inl, inr, ℕ, zero, suc, ◌+◌, ◌*◌, ◌/◌, ◌%◌, ◌<◌, ◌≤◌, List, Option, Some, refl, sym, ◌∙◌, ap, subst, arith}
+use Rattle.std.proofs.Common.{◌≡◌, inl, inr, ℕ, zero, suc, ◌+◌, ◌*◌, ◌/◌, ◌<◌, ◌≤◌, List, Option, Some, sym, ◌∙◌, ap, subst, arith}
 use Rattle.std.proofs.Math.Nat.{mul-le-mul_left}
-use Rattle.hl_media.specs.History.{History, MachineState, state_now}
+use Rattle.hl_media.specs.History.{History, state_now}
 use Rattle.hl_media.specs.Moments.{Now}
 use Rattle.hl_addr.specs.Layout.{Layout}
 use Rattle.hl_addr.proofs.SegmentLemmas.{address_is}
-use Rattle.hl_addr.specs.Place.{IsAt, IsIn}
-use Rattle.hl_addr.specs.declared.place.Place.TheVariants.{Line, Log}
+use Rattle.hl_addr.specs.Place.{IsAt}
+use Rattle.hl_addr.specs.declared.place.Place.TheVariants.{Line}
 use Rattle.hl_image.specs.Places.{InLog}
 use Rattle.hl_lines.specs.Lines.{line_with}
 use Rattle.hl_lines.specs.LineTable.{Lines}

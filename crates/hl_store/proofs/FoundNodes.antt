@@ -1,14 +1,13 @@
 -- What the draft of a number says of its node, behind its seating.
-use Rattle.std.proofs.Common.{Bor, ◌≡◌, ◌≢◌, ◌⊎◌, inl, inr, ℕ, ◌+◌, ◌<◌, ◌≤◌, Bool, true, false, List, length, get_or, slice_get, Option, Some, None, option_map, refl, sym, ◌∙◌, ap, subst, arith}
+use Rattle.std.proofs.Common.{◌≡◌, ℕ, ◌<◌, ◌≤◌, Bool, true, false, List, length, get_or, slice_get, Option, Some, None, option_map, refl, sym, ◌∙◌, ap, subst, arith}
 use Rattle.std.specs.Prelude.{IsSome, slice_index}
 use Rattle.std.specs.FinMap.{get}
 use Rattle.std.proofs.lemmas.List.{get_or_past}
 use Rattle.std.proofs.lemmas.List.FromFn.{length-map-range_with_len}
 use Rattle.std.proofs.lemmas.Option.{get_or_from_slice_get, slice_get_read}
-use Rattle.hl_media.specs.History.{History, MachineState, state_now}
-use Rattle.hl_media.specs.Moments.{Now}
+use Rattle.hl_media.specs.History.{History, state_now}
 use Rattle.hl_inode.specs.declared.inode.Kind.{Kind}
-use Rattle.hl_placed.specs.Blocks.{Block, Hole, blocks_of, file_block}
+use Rattle.hl_placed.specs.Blocks.{Hole, blocks_of}
 use Rattle.hl_paths.specs.Nodes.{FlatNode}
 use Rattle.hl_nodes.specs.Contents.{Contents}
 use Rattle.hl_overlay.specs.declared.draft.NodeDraft.{NodeDraft}
@@ -19,15 +18,14 @@ use Rattle.hl_overlay.specs.DraftTables.{draft_of}
 use Rattle.hl_overlay.specs.Overlays.{Holding, holding, holding_of}
 use Rattle.hl_overlay.specs.Making.{used_of}
 use Rattle.hl_overlay.proofs.TableLemmas.{blocks_most, is_draft_of}
-use Rattle.hl_overlaid.specs.NodesNow.{block_now, nodes_now, old_block, shaped_node}
+use Rattle.hl_overlaid.specs.NodesNow.{block_now, old_block, shaped_node}
 use Rattle.hl_overlaid.specs.Changes.{block_held, node_shape}
 use Rattle.hl_overlaid.proofs.DraftBlocks.{last_count, now_held, now_shape}
 use Rattle.hl_overlaid.proofs.NowLemmas.{none_some, now_changed, now_unchanged, one}
 use Rattle.hl_overlaid.proofs.PutLemmas.{mapped, mapped_none}
-use Rattle.hl_store.specs.declared.answers.Node.{Node}
 use Rattle.hl_store.specs.Values.{StoreValue, layout, nodes_of, overlaid}
 use Rattle.hl_store.specs.Lying.{LiesOver, block_of_number}
-use Rattle.hl_store.specs.Finding.{HasNodeFound, KeepsNodes, OverNow, ReadsNodes}
+use Rattle.hl_store.specs.Finding.{HasNodeFound, KeepsNodes, OverNow}
 use Rattle.hl_store.specs.Seats.{Seats}
 
 -- what is something is there
@@ -36,15 +34,18 @@ some_of None there = absurd cc
 some_of (Some x) there = (x, refl)
 
 module _ {M : Type 0} (history : M → Option History) (old new : StoreValue M) (ino count : ℕ) (seats : Seats history old new ino count) (high : ino < (layout old).inodes) where
+  -- the site and the last uses stay
   pub layout_is : layout new ≡ layout old
   layout_is = ap (λ (v : StoreValue M). layout v) seats.reads.same
 
   pub uses_are : new.uses ≡ old.uses
   uses_are = ap (λ (v : StoreValue M). v.uses) seats.reads.same
 
+  -- the draft of the number
   pub there : (d : NodeDraft) × (draft_of new.overlay.drafts ino ≡ Some d)
   there = some_of (draft_of new.overlay.drafts ino) seats.drafted
 
+  -- the number is one of the site
   pub high_now : ino < (layout new).inodes
   high_now = subst (λ n. ino < n) (sym (ap (λ g. g.inodes) layout_is)) high
 
@@ -57,6 +58,7 @@ module _ {M : Type 0} (history : M → Option History) (old new : StoreValue M) 
   held_some i none = none_some (sym none ∙ ap (λ (x : Option NodeDraft). option_map (holding_of new.overlay.blocks) (option_map (λ (y : NodeDraft). where_is y.pointers i) x)) there.1)
 
   module _ (h : History) (told : history old.log.machine ≡ Some h) (c : Contents) (lies : LiesOver old c (state_now h)) where
+    -- the store lies over the contents still
     pub keeps : KeepsNodes old new (state_now h) c
     keeps = seats.reads.keeps h told c lies
 
@@ -64,6 +66,7 @@ module _ {M : Type 0} (history : M → Option History) (old new : StoreValue M) 
     pub shape_now : there.0.shape ≡ option_map node_shape (get (nodes_of new c) ino)
     shape_now = now_shape (layout new) (state_now h).content c (overlaid new) keeps.over.rests.has seats.whole keeps.over.over ino high_now there.0 there.1
 
+    -- which is what it was
     pub shape_is : there.0.shape ≡ option_map node_shape (get (nodes_of old c) ino)
     shape_is = shape_now ∙ ap (λ ns. option_map node_shape (get ns ino)) keeps.nodes
 
@@ -71,6 +74,7 @@ module _ {M : Type 0} (history : M → Option History) (old new : StoreValue M) 
     pub block_is : (i : ℕ) → i < 1036 → (now : Holding) → holding new.overlay ino i ≡ Some now → block_of_number old c ino i ≡ block_held (old_block (get c.nodes ino) i) now
     block_is i few now held = ap (λ ns. old_block (get ns ino) i) (sym keeps.nodes) ∙ now_held (layout new) (state_now h).content c (overlaid new) keeps.over.rests.has seats.whole keeps.over.over ino high_now there.0 there.1 i few now held
 
+    -- the draft is one of the table, of its number
     pub is_draft : IsDraft there.0
     is_draft = is_draft_of new.overlay.drafts ino there.0 seats.whole.table there.1
 
@@ -120,6 +124,7 @@ module _ {M : Type 0} (history : M → Option History) (old new : StoreValue M) 
         };
       }
 
+  -- and none, where the draft has no shape
   pub none_found : (d : NodeDraft) → draft_of new.overlay.drafts ino ≡ Some d → d.shape ≡ None → OverNow history old (λ s c. get (nodes_of old c) ino ≡ None)
   none_found d at is h told c lies =
       let same : there.0 ≡ d = one there.1 at in

@@ -1,6 +1,6 @@
 -- Reads change nothing on a machine.
-use Rattle.std.proofs.Common.{◌≡◌, ℕ, ◌+◌, ◌-◌, ◌^◌, ◌≤◌, ◌++◌, Option, Some, refl, sym, ◌∙◌, ap, subst, arith}
-use Rattle.hl_media.specs.History.{History, MachineState, state_now, with_calls}
+use Rattle.std.proofs.Common.{◌≡◌, ℕ, ◌≤◌, ◌++◌, Option, Some, refl, sym, ◌∙◌, ap, subst, arith}
+use Rattle.hl_media.specs.History.{History, MachineState, with_calls}
 use Rattle.hl_media.specs.Moments.{Now, Runs}
 use Rattle.hl_media.specs.Causes.{Rose}
 use Rattle.hl_media.proofs.Runs.{ends_of_run, goes_on, starts}
@@ -22,10 +22,6 @@ now_before before now P run holds h e =
 -- a count that rose behind an earlier moment rose since
 pub rose_since : (a b c : ℕ) → a ≤ b → Rose b c → Rose a c
 rose_since a b c le rose = omega arith
-
--- and one that rose until then rose until later
-pub rose_until : (a b c : ℕ) → Rose a b → b ≤ c → Rose a c
-rose_until a b c rose le = omega arith
 
 module _ {M : Type 0} {history : M → Option History} {blocks faults write_faults say_faults : M → ℕ} where
   -- no read was made

@@ -1,5 +1,5 @@
 -- Nodes that are read into drafts.
-use Rattle.std.specs.Prelude.{◌≡◌, ℕ, ◌+◌, ◌≤◌, IsSome, List, length, Option}
+use Rattle.std.specs.Prelude.{◌≡◌, ℕ, ◌+◌, IsSome, List, Option}
 use Rattle.hl_media.specs.History.{History, MachineState}
 use Rattle.hl_media.specs.Moments.{Now}
 use Rattle.hl_media.specs.Causes.{Rose}

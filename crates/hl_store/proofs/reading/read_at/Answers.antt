@@ -1,4 +1,4 @@
-use Rattle.std.proofs.Common.{◌≡◌, ◌<◌, refl, sym, ◌∙◌, ap, subst}
+use Rattle.std.proofs.Common.{subst}
 use Rattle.hl_addr.specs.Layout.{Layout}
 use Rattle.hl_addr.specs.Place.{IsAt}
 use Rattle.hl_addr.specs.declared.place.Place.TheVariants.{Line}

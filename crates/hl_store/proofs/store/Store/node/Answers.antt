@@ -1,4 +1,4 @@
-use Rattle.std.proofs.Common.{◌≡◌, refl, sym, ◌∙◌, ap, subst}
+use Rattle.std.proofs.Common.{sym, subst}
 use Rattle.hl_store.specs.declared.answers.NodeFound.{NodeFound}
 use Rattle.hl_store.specs.Finding.{FindsNode}
 use Rattle.hl_store.proofs.FoundNodes.{node_found_in, none_found_in}
