@@ -16,3 +16,6 @@ mod FlushedLemmas
 mod QuietLemmas
 mod NodeChanges
 mod WriteLemmas
+mod AddressReads
+mod FoundNodes
+mod FoundBlocks
