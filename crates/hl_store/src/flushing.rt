@@ -130,11 +130,11 @@ impl<M: Machine> Store<M> {
     ghost use Rattle.hl_store.specs.Flushes.{FlushEnds, Flushes, WriteEnds};
     ghost use Rattle.hl_store.specs.Values.{IsTidy};
 
-    /// Whether the next unit would have anything.
-    fn is_dirty(&self) -> bool
-        ensures { IsTrue result ↔ ¬ IsTidy self.now }
+    /// Whether the next unit would have nothing.
+    fn is_tidy(&self) -> bool
+        ensures { IsTrue result ↔ IsTidy self.now }
     {
-        self.dirty() != 0 || !self.notes.as_slice().is_empty()
+        self.dirty() == 0 && self.notes.as_slice().is_empty()
     }
 
     /// The changes of the tables that the next unit is to have.
@@ -229,7 +229,7 @@ impl<M: Machine> Store<M> {
         ensures say_faults { M.say_faults self.new.log.machine
             ≡ M.say_faults self.old.log.machine }
     {
-        if !self.is_dirty() {
+        if self.is_tidy() {
             return UnitAnswer::Written { used: 0 };
         }
         if self.clean().len() < CLEAN_MIN {
