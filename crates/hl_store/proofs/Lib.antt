@@ -19,3 +19,4 @@ mod WriteLemmas
 mod AddressReads
 mod FoundNodes
 mod FoundBlocks
+mod OpenLemmas
