@@ -219,8 +219,8 @@ module _ {M : Type 0} (v : StoreValue M) (shaped : IsShaped v) (whole : IsWholeO
   not_written history faults write_faults log t tally o answer.Memory other ends lays back = absurd ends
   not_written history faults write_faults log t tally o answer.DiskFault other ends lays back =
       let at : o ≡ record v.overlay { room = 0 } = back
-          ∙ ap (λ (d : DraftTable). record { drafts = d; blocks = made.fresh; room = 0 }) is.drafts
-          ∙ ap (λ (bs : List (BlockRecord × Block)). record { drafts = v.overlay.drafts; blocks = bs; room = 0 }) is.fresh in (
+      ∙ ap (λ (d : DraftTable). record { drafts = d; blocks = made.fresh; room = 0 }) is.drafts
+      ∙ ap (λ (bs : List (BlockRecord × Block)). record { drafts = v.overlay.drafts; blocks = bs; room = 0 }) is.fresh in (
         (is.planned.0, is.planned.1, is.planned.2),
         ends.1,
         ap (λ (x : TableValues). one log x tally o) lays.0 ∙ ap (λ (n : Tally). one log v.tables n o) lays.1 ∙ ap (λ (x : OverlayValue). one log v.tables v.tally x) at,

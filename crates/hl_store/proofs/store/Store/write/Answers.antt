@@ -99,12 +99,12 @@ invariant_of-self-2 g c =
     let before = c.self.invariant.taken in
     record {
       shape = writing.left_so _ c.self.invariant.shape whole c.as_slice-plan.result.now c.make-made.result made g.M.Machine.history g.M.Machine.faults g.M.Machine.write_faults c.write_made-answer.new.log c.write_made-answer.new.tables c.write_made-answer.new.counts c.settled.result c.in-Written.used _ c.in-Written.ensures.geometry
-        (subst (λ (cs : List ℕ). UnitIsWritten g.M.Machine.history g.M.Machine.faults g.M.Machine.write_faults cs (brought_by c.make-made.result.blocks c.make-made.result.tables) c.self.inside.log c.write_made-answer.new.log c.in-Written.used) c.not_taken-clean.ensures c.in-Written.ensures.ends.1)
-        c.in-Written.ensures.laid c.settled.ensures.empty c.settled.ensures.none refl
-        IsShaped c.clear.new.self.items (drop (c.self.inside.taken + c.in-Written.used) c.self.inside.clean.items) c.clear.ensures.items (sym (drop-drop c.in-Written.used c.self.inside.taken c.self.inside.clean.items))
-        (writing.is_shaped _ c.self.invariant.shape whole c.as_slice-plan.result.now c.make-made.result made g.M.Machine.history g.M.Machine.faults g.M.Machine.write_faults c.write_made-answer.new.log c.write_made-answer.new.tables c.write_made-answer.new.counts c.settled.result c.in-Written.used _ c.in-Written.ensures.geometry
-        (subst (λ (cs : List ℕ). UnitIsWritten g.M.Machine.history g.M.Machine.faults g.M.Machine.write_faults cs (brought_by c.make-made.result.blocks c.make-made.result.tables) c.self.inside.log c.write_made-answer.new.log c.in-Written.used) c.not_taken-clean.ensures c.in-Written.ensures.ends.1)
-        c.in-Written.ensures.laid c.settled.ensures.empty c.settled.ensures.none refl);
+          (subst (λ (cs : List ℕ). UnitIsWritten g.M.Machine.history g.M.Machine.faults g.M.Machine.write_faults cs (brought_by c.make-made.result.blocks c.make-made.result.tables) c.self.inside.log c.write_made-answer.new.log c.in-Written.used) c.not_taken-clean.ensures c.in-Written.ensures.ends.1)
+          c.in-Written.ensures.laid c.settled.ensures.empty c.settled.ensures.none refl
+          IsShaped c.clear.new.self.items (drop (c.self.inside.taken + c.in-Written.used) c.self.inside.clean.items) c.clear.ensures.items (sym (drop-drop c.in-Written.used c.self.inside.taken c.self.inside.clean.items))
+          (writing.is_shaped _ c.self.invariant.shape whole c.as_slice-plan.result.now c.make-made.result made g.M.Machine.history g.M.Machine.faults g.M.Machine.write_faults c.write_made-answer.new.log c.write_made-answer.new.tables c.write_made-answer.new.counts c.settled.result c.in-Written.used _ c.in-Written.ensures.geometry
+          (subst (λ (cs : List ℕ). UnitIsWritten g.M.Machine.history g.M.Machine.faults g.M.Machine.write_faults cs (brought_by c.make-made.result.blocks c.make-made.result.tables) c.self.inside.log c.write_made-answer.new.log c.in-Written.used) c.not_taken-clean.ensures c.in-Written.ensures.ends.1)
+          c.in-Written.ensures.laid c.settled.ensures.empty c.settled.ensures.none refl);
       taken = omega arith;
     }
 
@@ -125,10 +125,10 @@ returns-clause-ends g c =
     let new : StoreValue _ = record { log = c.write_made-answer.new.log; tables = c.write_made-answer.new.tables; notes = c.clear.new.self.items; overlay = c.settled.result; uses = c.self.inside.uses.items; tally = c.write_made-answer.new.counts; lines = c.self.inside.lines; clean = drop (c.self.inside.taken + c.in-Written.used) c.self.inside.clean.items; tseg_serial = c.self.inside.tseg_serial } in
     subst (λ (x : StoreValue _). HasUnitRoom x × IsFlushed g.M.Machine.history g.M.Machine.faults g.M.Machine.write_faults x new c.in-Written.used) c.self.view_is
     (writing.left_so _ c.self.invariant.shape whole c.as_slice-plan.result.now c.make-made.result made g.M.Machine.history g.M.Machine.faults g.M.Machine.write_faults c.write_made-answer.new.log c.write_made-answer.new.tables c.write_made-answer.new.counts c.settled.result c.in-Written.used _ c.in-Written.ensures.geometry
-        (subst (λ (cs : List ℕ). UnitIsWritten g.M.Machine.history g.M.Machine.faults g.M.Machine.write_faults cs (brought_by c.make-made.result.blocks c.make-made.result.tables) c.self.inside.log c.write_made-answer.new.log c.in-Written.used) c.not_taken-clean.ensures c.in-Written.ensures.ends.1)
-        c.in-Written.ensures.laid c.settled.ensures.empty c.settled.ensures.none refl
-        (λ (x : StoreValue _). HasUnitRoom v × IsFlushed g.M.Machine.history g.M.Machine.faults g.M.Machine.write_faults v x c.in-Written.used)
-        c.clear.new.self.items (drop (c.self.inside.taken + c.in-Written.used) c.self.inside.clean.items) c.clear.ensures.items (sym (drop-drop c.in-Written.used c.self.inside.taken c.self.inside.clean.items))
-        (writing.is_flushed _ c.self.invariant.shape whole c.as_slice-plan.result.now c.make-made.result made g.M.Machine.history g.M.Machine.faults g.M.Machine.write_faults c.write_made-answer.new.log c.write_made-answer.new.tables c.write_made-answer.new.counts c.settled.result c.in-Written.used _ c.in-Written.ensures.geometry
-        (subst (λ (cs : List ℕ). UnitIsWritten g.M.Machine.history g.M.Machine.faults g.M.Machine.write_faults cs (brought_by c.make-made.result.blocks c.make-made.result.tables) c.self.inside.log c.write_made-answer.new.log c.in-Written.used) c.not_taken-clean.ensures c.in-Written.ensures.ends.1)
-        c.in-Written.ensures.laid c.settled.ensures.empty c.settled.ensures.none refl))
+    (subst (λ (cs : List ℕ). UnitIsWritten g.M.Machine.history g.M.Machine.faults g.M.Machine.write_faults cs (brought_by c.make-made.result.blocks c.make-made.result.tables) c.self.inside.log c.write_made-answer.new.log c.in-Written.used) c.not_taken-clean.ensures c.in-Written.ensures.ends.1)
+    c.in-Written.ensures.laid c.settled.ensures.empty c.settled.ensures.none refl
+    (λ (x : StoreValue _). HasUnitRoom v × IsFlushed g.M.Machine.history g.M.Machine.faults g.M.Machine.write_faults v x c.in-Written.used)
+    c.clear.new.self.items (drop (c.self.inside.taken + c.in-Written.used) c.self.inside.clean.items) c.clear.ensures.items (sym (drop-drop c.in-Written.used c.self.inside.taken c.self.inside.clean.items))
+    (writing.is_flushed _ c.self.invariant.shape whole c.as_slice-plan.result.now c.make-made.result made g.M.Machine.history g.M.Machine.faults g.M.Machine.write_faults c.write_made-answer.new.log c.write_made-answer.new.tables c.write_made-answer.new.counts c.settled.result c.in-Written.used _ c.in-Written.ensures.geometry
+    (subst (λ (cs : List ℕ). UnitIsWritten g.M.Machine.history g.M.Machine.faults g.M.Machine.write_faults cs (brought_by c.make-made.result.blocks c.make-made.result.tables) c.self.inside.log c.write_made-answer.new.log c.in-Written.used) c.not_taken-clean.ensures c.in-Written.ensures.ends.1)
+    c.in-Written.ensures.laid c.settled.ensures.empty c.settled.ensures.none refl))
