@@ -12,9 +12,11 @@ mod counts;
 mod flushing;
 mod footing;
 mod in_use;
+mod lines;
 mod live;
 mod reading;
 mod seats;
+mod segments;
 mod store;
 
 pub use answers::{Found, Node, NodeFound, Placed, Prepared};
