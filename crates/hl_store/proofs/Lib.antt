@@ -10,3 +10,4 @@ mod SeatLemmas
 pub mod RunPairs
 pub mod FlushLemmas
 mod LineSteps
+mod NoteSteps

@@ -1,51 +1,34 @@
--- Calls that touch nothing but what lies behind the log, and changes of slots.
-use Rattle.std.proofs.Common.{◌≡◌, inl, ℕ, ◌+◌, ◌*◌, ◌/◌, ◌<◌, ◌≤◌, ◌==◌, All, true, false, Bool, if◌then◌else◌, List, [], ◌∷◌, ◌++◌, length, take, drop, Option, Result, OnOk, Ok, Err, refl, sym, ◌∙◌, ap, subst, arith}
+-- Calls that touch nothing but what lies behind the log.
+use Rattle.std.proofs.Common.{◌≡◌, inl, ℕ, ◌*◌, ◌/◌, ◌<◌, ◌≤◌, true, List, [], length, Option, Result, OnOk, Ok, Err, refl, sym, ◌∙◌, subst, arith}
 use Rattle.std.specs.Option.{ForSome}
-use Rattle.std.specs.List.{fold}
 use Rattle.std.proofs.lemmas.List.{take_all}
-use Rattle.std.proofs.lemmas.List.Elements.{All-push}
-use Rattle.std.proofs.lemmas.List.Sums.{fold-append}
 use Rattle.hl_media.specs.declared.failed.Failed.{Failed}
-use Rattle.hl_media.specs.History.{Adds, DidSync, DidWrite, History, HoldsAt, Image, MachineState, area, begun, content, ended, state_now}
+use Rattle.hl_media.specs.History.{Adds, DidSync, DidWrite, History, HoldsAt, MachineState, area, begun, content, ended, overwritten, state_now}
 use Rattle.hl_media.specs.History.DeviceCall.{Sync, Write}
 use Rattle.hl_media.specs.Moments.{Now, Runs}
-use Rattle.hl_media.proofs.Runs.{each_sync, each_write}
-use Rattle.hl_media.proofs.Images.{area_holds, overwritten_out}
-use Rattle.hl_addr.specs.Layout.{Layout}
+use Rattle.hl_media.proofs.Runs.{after_write, each_sync, each_write, now_from}
+use Rattle.hl_media.proofs.Images.{area_holds, area_overwritten, overwritten_out}
 use Rattle.hl_bytes.specs.Buffers.{part_of, with_part}
-use Rattle.hl_bytes.specs.declared.records.TableRecord.{TableRecord}
 use Rattle.hl_bytes.proofs.WholeParts.{whole_written}
 use Rattle.hl_image.specs.Places.{log_end}
 use Rattle.hl_log.specs.Logs.{LogValue, with_machine}
 use Rattle.hl_log.specs.Rest.{OnlyFrom, StopLeaves}
 use Rattle.hl_log.proofs.Wraps.{runs_map}
-use Rattle.hl_tables.specs.Laying.{changed, with_full, with_inode, with_slot}
-use Rattle.hl_tables.specs.Values.{SameShape, TableValues}
-use Rattle.hl_tseg.specs.SlotTable.{SlotTable}
-use Rattle.hl_tseg.specs.declared.slot.Slot.TheVariants.{Home, Spoilt, Staged}
-use Rattle.hl_nodes.specs.Contents.{Contents, next_tertiary}
+use Rattle.hl_nodes.specs.Contents.{Contents}
 use Rattle.hl_nodes.specs.Lines.{line_start}
 use Rattle.hl_nodes.specs.Live.{IsLive}
-use Rattle.hl_nodes.specs.Sound.{AreSlots}
-use Rattle.hl_nodes.specs.Tables.{raised}
 use Rattle.hl_nodes.proofs.ListingLaws.{rest_leaves_listed, same_listed}
 use Rattle.hl_nodes.proofs.PointerLemmas.{in_log-high}
 use Rattle.hl_nodes.proofs.RestLaws.{rest_leaves, rests_same}
 use Rattle.hl_nodes.proofs.SoundUnits.{sound_same}
 use Rattle.hl_nodes.proofs.UnitLaws.{limits, live_in_log, untouched}
-use Rattle.hl_overlay.specs.Overlays.{IsWholeOverlay}
-use Rattle.hl_overlaid.specs.Changes.{KeepsAllSlots}
-use Rattle.hl_overlaid.specs.Units.{IsOfSlots}
-use Rattle.hl_overlaid.proofs.BehindLemmas.{notes-inodes}
 use Rattle.hl_overlaid.proofs.ImageLemmas.{over_log}
-use Rattle.hl_overlaid.proofs.UseLemmas.{slots_now, slots_over}
-use Rattle.hl_tally.proofs.ReachLaws.{log_tally, slots_tally}
-use Rattle.hl_store.specs.Values.{StoreValue, layout, nodes_of, overlaid}
-use Rattle.hl_store.specs.Shapes.{IsNoteOf, IsShaped}
+use Rattle.hl_tally.proofs.ReachLaws.{log_tally}
+use Rattle.hl_store.specs.Values.{StoreValue, layout, overlaid}
 use Rattle.hl_store.specs.Lying.{LiesOver}
-use Rattle.hl_store.specs.Finding.{KeepsNodes, on_machine}
+use Rattle.hl_store.specs.Finding.{on_machine}
 use Rattle.hl_store.specs.Flushes.{Holds}
-use Rattle.hl_store.specs.LineWrites.{LastsOver, Notes, StaysOver, with_note}
+use Rattle.hl_store.specs.LineWrites.{LastsOver, StaysOver}
 
 -- all blocks of a buffer
 pub part_all : (bytes : List ℕ) (k : ℕ) → length bytes ≡ 4096 * k → part_of bytes 0 k ≡ bytes
@@ -59,19 +42,14 @@ area_read told (Ok u) at k bytes part size same holds = λ h e.
     area_holds (content h) at k part same (λ i lt. holds h e i (omega arith)) ∙ sym (whole_written bytes part (same ∙ sym size))
 area_read told (Err e) at k bytes part size same holds = tt
 
--- the slots that a change of the tables leaves are told by those before it
-changed_slots_by : (p q s u w : Bool) (a b : TableValues) (r : TableRecord) → a.slots ≡ b.slots
-    → (if p then with_inode a r.a 4294967295 else (if q then with_slot a r.a (Staged r.b r.serial) else (if s then with_slot a r.a (Home r.serial) else (if u then with_slot a r.a Spoilt else (if w then with_full a r.a else a))))).slots
-    ≡ (if p then with_inode b r.a 4294967295 else (if q then with_slot b r.a (Staged r.b r.serial) else (if s then with_slot b r.a (Home r.serial) else (if u then with_slot b r.a Spoilt else (if w then with_full b r.a else b))))).slots
-changed_slots_by true q s u w a b r e = e
-changed_slots_by false true s u w a b r e = ap (λ (x : SlotTable). (with_slot (record a { slots = x }) r.a (Staged r.b r.serial)).slots) e
-changed_slots_by false false true u w a b r e = ap (λ (x : SlotTable). (with_slot (record a { slots = x }) r.a (Home r.serial)).slots) e
-changed_slots_by false false false true w a b r e = ap (λ (x : SlotTable). (with_slot (record a { slots = x }) r.a Spoilt).slots) e
-changed_slots_by false false false false true a b r e = ap (λ (x : SlotTable). (with_full (record a { slots = x }) r.a).slots) e
-changed_slots_by false false false false false a b r e = e
-
-changed_slots : (a b : TableValues) (r : TableRecord) → a.slots ≡ b.slots → (changed a r).slots ≡ (changed b r).slots
-changed_slots a b r e = changed_slots_by (r.kind == 1) (r.kind == 2) (r.kind == 3) (r.kind == 4) (r.kind == 5) a b r e
+-- what reads give behind a write of a whole buffer
+pub area_written : (before now : Option History) (r : Result (Unit {0}) Failed) (at k : ℕ) (bytes : List ℕ) → length bytes ≡ 4096 * k → Adds before now (DidWrite at bytes r) → OnOk r (Now now (λ s. area s.content at k ≡ bytes))
+area_written before now (Ok u) at k bytes size adds =
+    let count : length bytes / 4096 ≡ k = omega arith in
+    now_from before now adds.calls adds.is (λ s. Unit {0}) (λ s. area s.content at k ≡ bytes) (λ h e. tt) (λ s none.
+    subst (λ (t : MachineState). area t.content at k ≡ bytes) (sym (after_write s at bytes adds.calls u adds.did))
+    (subst (λ n. area (overwritten s.content at (length bytes / 4096) bytes) at n ≡ bytes) count (area_overwritten s.content at bytes (omega arith))))
+area_written before now (Err e) at k bytes size adds = tt
 
 module _ {M : Type 0} where
   module _ (v : StoreValue M) (c : Contents) (s : MachineState) (lies : LiesOver v c s) where
@@ -179,55 +157,3 @@ module _ {M : Type 0} where
       sync_stays = subst (λ (x : StoreValue M). Runs (history x.log.machine) (history l.machine) (StaysOver x (record t { log = l }))) view_is
           (subst (λ (x : LogValue M). Runs (history t.log.machine) (history l.machine) (StaysOver t (record t { log = x }))) (sym same)
           (lying_stays t l.machine (history t.log.machine) (history l.machine) (sync_lies t r (history t.log.machine) (history l.machine) adds)))
-
-  -- A NOTE
-  module _ (t : StoreValue M) (change : TableRecord) (tables : TableValues) (notes : List TableRecord) (next : ℕ) (shaped : IsShaped t) (of : IsNoteOf (layout t) change) (notes_are : notes ≡ t.notes ++ change ∷ []) where
-    abbrev noted : StoreValue M
-    noted = record t { tables = tables; notes = notes; tseg_serial = next }
-
-    -- each list is as long as it was, and each note is one of the site
-    pub noted_shaped : SameShape t.tables tables → IsShaped noted
-    noted_shaped same = record {
-      limits = shaped.limits;
-      drafts = shaped.drafts;
-      uses = shaped.uses;
-      inodes = same.inodes ∙ shaped.inodes;
-      used = same.used ∙ shaped.used;
-      blocks = same.segment_size ∙ shaped.blocks;
-      volumes = same.volumes ∙ shaped.volumes;
-      in_use = shaped.in_use;
-      live = shaped.live;
-      lines = shaped.lines;
-      clean = shaped.clean;
-      few = shaped.few;
-      notes = subst (All (IsNoteOf (layout t))) (sym notes_are) (All-push (IsNoteOf (layout t)) t.notes change shaped.notes of);
-    }
-
-    module _ (whole : IsWholeOverlay t.overlay) (tables_are : tables ≡ changed t.tables change) (next_is : next ≡ raised t.tseg_serial change) where
-      noted_over : (c : Contents) (s : MachineState) → LiesOver t c s → AreSlots (layout t) (with_note t change).tables.slots (with_note t change).tseg_serial
-          → KeepsAllSlots (overlaid t) c.nodes (with_note t change).tables.slots → LiesOver (with_note t change) c s
-      noted_over c s lies possible keeps = record {
-        rests = lies.rests;
-        sound = lies.sound;
-        listed = lies.listed;
-        rec = lies.rec;
-        inodes = notes-inodes t.tables (change ∷ []) (All-push IsOfSlots [] change (λ k d lt. absurd (omega arith)) of.0) ∙ lies.inodes;
-        slots = changed_slots t.tables (fold changed c.tables t.notes) change lies.slots ∙ sym (ap (λ (x : TableValues). x.slots) (fold-append changed c.tables t.notes (change ∷ [])));
-        serial = ap (λ (n : ℕ). raised n change) lies.serial ∙ sym (fold-append raised (next_tertiary c) t.notes (change ∷ []));
-        possible = possible;
-        over = slots_over (layout t) s.content c (overlaid t) (record { table = whole.table; named = whole.named; numbers = shaped.drafts; each_use = shaped.uses }) lies.over (changed t.tables change).slots keeps;
-        tally = slots_tally (layout t) s.content c (overlaid t) (changed t.tables change).slots t.tally lies.tally;
-      }
-
-      noted_is : noted ≡ with_note t change
-      noted_is = ap (λ (x : TableValues). record t { tables = x; notes = notes; tseg_serial = next }) tables_are
-          ∙ ap (λ (x : List TableRecord). record t { tables = changed t.tables change; notes = x; tseg_serial = next }) notes_are
-          ∙ ap (λ (n : ℕ). record t { tables = changed t.tables change; notes = t.notes ++ change ∷ []; tseg_serial = n }) next_is
-
-      pub notes_change : (self : StoreValue M) → t ≡ self → Notes self noted change
-      notes_change self view_is = subst (λ (x : StoreValue M). Notes x noted change) view_is
-          (subst (λ (x : StoreValue M). Notes t x change) (sym noted_is) (record {
-            same = refl;
-            over = noted_over;
-            nodes = λ c. slots_now (overlaid t) (changed t.tables change).slots c.nodes;
-          }))

@@ -11,3 +11,4 @@ pub mod Changes
 pub mod Writing
 pub mod Flushes
 pub mod LineWrites
+pub mod Noting

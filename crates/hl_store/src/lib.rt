@@ -14,6 +14,7 @@ mod footing;
 mod in_use;
 mod lines;
 mod live;
+mod noting;
 mod reading;
 mod seats;
 mod segments;

@@ -1,6 +1,6 @@
 //! Whole segments of the log and lines of the disk, read and written as they are.
 
-ghost use Rattle.std.specs.Prelude.{◌≡◌, ◌↔◌, ◌+◌, ◌-◌, ◌*◌, ◌/◌, ◌<◌, ◌≤◌, Contains, IsTrue, OnErr, OnOk, length};
+ghost use Rattle.std.specs.Prelude.{◌≡◌, ◌↔◌, ◌+◌, ◌-◌, ◌*◌, ◌/◌, ◌<◌, ◌≤◌, Contains, IsTrue, OnOk, length};
 ghost use Rattle.hl_addr.specs.Layout.{IsWithinLimits};
 ghost use Rattle.hl_image.specs.Places.{log_end};
 ghost use Rattle.hl_media.specs.History.{Adds, DidSync, DidWrite, area};
@@ -8,18 +8,15 @@ ghost use Rattle.hl_media.specs.Moments.{Now, Runs};
 ghost use Rattle.hl_media.specs.Causes.{HasCause};
 ghost use Rattle.hl_log.specs.Logs.{OnlyReads, site_blocks, with_machine};
 ghost use Rattle.hl_nodes.specs.Lines.{line_bytes, line_start};
-ghost use Rattle.hl_nodes.specs.Tables.{raised};
 ghost use Rattle.hl_store.specs.Values.{layout};
-ghost use Rattle.hl_store.specs.Shapes.{IsNoteOf};
 ghost use Rattle.hl_store.specs.Finding.{on_machine};
-ghost use Rattle.hl_store.specs.LineWrites.{KeepsAllNodes, LastsOver, Notes, StaysOver, segment_bytes, segment_start};
+ghost use Rattle.hl_store.specs.LineWrites.{KeepsAllNodes, LastsOver, StaysOver, segment_bytes, segment_start};
 
 use crate::store::Store;
 use hl_addr::Geometry;
-use hl_bytes::{SegBuf, TableRecord};
+use hl_bytes::SegBuf;
 use hl_log::Log;
 use hl_media::{Failed, Machine};
-use std::alloc::AllocError;
 
 /// The first block of a line.
 fn line_start(geometry: &Geometry, line: u32) -> u32
@@ -57,17 +54,6 @@ fn load<M: Machine>(log: &mut Log<M>, at: u32, buf: &mut SegBuf) -> Result<(), F
     let k = log.geometry().k;
     let out = buf.part_mut(0, k);
     log.read(at, out)
-}
-
-/// The next tertiary serial behind a change of the tables.
-fn raised(next: u64, change: &TableRecord) -> u64
-    ensures { result ≡ raised next change.now }
-{
-    if change.kind == 2 {
-        next.max(change.serial.saturating_add(1))
-    } else {
-        next
-    }
 }
 
 impl<M: Machine> Store<M> {
@@ -114,6 +100,8 @@ impl<M: Machine> Store<M> {
         ensures did { let at = line_start (layout self.old) line in
             Adds (M.history self.old.log.machine) (M.history self.new.log.machine)
             (DidWrite at buf.now result) }
+        ensures bytes { OnOk result (Now (M.history self.new.log.machine)
+            (λ s. line_bytes (layout self.old) s.content line ≡ buf.now)) }
         ensures crash { Runs (M.history self.old.log.machine) (M.history self.new.log.machine)
             (LastsOver self.old) }
         ensures keeps { Runs (M.history self.old.log.machine) (M.history self.new.log.machine)
@@ -148,21 +136,6 @@ impl<M: Machine> Store<M> {
         ensures say_faults { M.say_faults self.new.log.machine ≡ M.say_faults self.old.log.machine }
     {
         self.log.sync()
-    }
-
-    /// Makes a change of a slot or a volume in the tables, and puts it into the next unit. Nothing changes where memory is
-    /// wanted.
-    pub fn note(&mut self, change: TableRecord) -> Result<(), AllocError>
-        requires { IsNoteOf (layout self.old) change }
-        ensures noted { OnOk result (Notes self.old self.new change) }
-        ensures err { OnErr result (self.new ≡ self.old) }
-    {
-        let _ = self.overlay.others();
-        let _ = self.tables.slots().items();
-        self.notes.push(change)?;
-        self.tables.lay(0, 0, &[], &[change]);
-        self.tseg_serial = raised(self.tseg_serial, &change);
-        Ok(())
     }
 
     /// Whether a log segment isn't among the clean ones. It walks these.

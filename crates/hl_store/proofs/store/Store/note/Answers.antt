@@ -1,7 +1,7 @@
 use Rattle.std.proofs.Common.{sym, subst}
 use Rattle.hl_store.specs.Values.{StoreValue, layout}
 use Rattle.hl_store.specs.Shapes.{IsNoteOf}
-use Rattle.hl_store.proofs.LineSteps.{noted_shaped, notes_change}
+use Rattle.hl_store.proofs.NoteSteps.{noted_shaped, notes_change}
 use Rattle.hl_store.proofs.store.Store.note.Goals as goal
 
 pub invariant_of-self-2 : goal.invariant_of-self-2
