@@ -1,4 +1,4 @@
-use Rattle.std.proofs.Common.{◌≡◌, length, ◌*◌, ◌∙◌, ap, arith, sym}
+use Rattle.std.proofs.Common.{◌*◌, ◌∙◌, ap, arith}
 use Rattle.hl_addr.specs.Layout.{Layout}
 use Rattle.hl_bytes.proofs.Parts.{length-with_part}
 use Rattle.hl_store.proofs.LineSteps.{area_read}

@@ -1,4 +1,4 @@
-use Rattle.std.proofs.Common.{◌≡◌, ◌≤◌, length, ◌*◌, ◌∙◌, ap, arith, sym, subst}
+use Rattle.std.proofs.Common.{◌≤◌, ◌*◌, ◌∙◌, ap, sym, subst}
 use Rattle.hl_addr.specs.Layout.{Layout}
 use Rattle.hl_image.specs.Places.{log_end}
 use Rattle.hl_nodes.specs.Lines.{line_start}
