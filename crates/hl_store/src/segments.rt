@@ -1,6 +1,6 @@
 //! Whole segments of the log and lines of the disk, read and written as they are.
 
-ghost use Rattle.std.specs.Prelude.{◌≡◌, ◌↔◌, ◌+◌, ◌-◌, ◌*◌, ◌/◌, ◌<◌, ◌≤◌, Contains, IsTrue, OnOk, length};
+ghost use Rattle.std.specs.Prelude.{◌≡◌, ◌↔◌, ◌+◌, ◌*◌, ◌<◌, ◌≤◌, Contains, IsTrue, OnOk, length};
 ghost use Rattle.hl_addr.specs.Layout.{IsWithinLimits};
 ghost use Rattle.hl_image.specs.Places.{log_end};
 ghost use Rattle.hl_media.specs.History.{Adds, DidSync, DidWrite, area};
@@ -66,7 +66,8 @@ impl<M: Machine> Store<M> {
         ensures size { length buf.new ≡ length buf.old }
         ensures machine { OnlyReads M.history M.blocks M.faults M.write_faults M.say_faults
             self.old.log.machine self.new.log.machine }
-        ensures fault { HasCause (M.faults self.old.log.machine) (M.faults self.new.log.machine) result }
+        ensures fault { HasCause (M.faults self.old.log.machine)
+            (M.faults self.new.log.machine) result }
         ensures same { self.new ≡ on_machine self.old self.new.log.machine }
         ensures keeps { KeepsAllNodes self.old self.new }
     {
@@ -84,7 +85,8 @@ impl<M: Machine> Store<M> {
         ensures size { length buf.new ≡ length buf.old }
         ensures machine { OnlyReads M.history M.blocks M.faults M.write_faults M.say_faults
             self.old.log.machine self.new.log.machine }
-        ensures fault { HasCause (M.faults self.old.log.machine) (M.faults self.new.log.machine) result }
+        ensures fault { HasCause (M.faults self.old.log.machine)
+            (M.faults self.new.log.machine) result }
         ensures same { self.new ≡ on_machine self.old self.new.log.machine }
         ensures keeps { KeepsAllNodes self.old self.new }
     {
