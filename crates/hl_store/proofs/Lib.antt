@@ -20,3 +20,5 @@ mod AddressReads
 mod FoundNodes
 mod FoundBlocks
 mod OpenLemmas
+mod LineSteps
+mod NoteSteps

@@ -10,3 +10,5 @@ pub mod Reading
 pub mod Changes
 pub mod Flushes
 pub mod Writing
+pub mod LineWrites
+pub mod Noting

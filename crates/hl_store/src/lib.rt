@@ -12,9 +12,12 @@ mod counts;
 mod flushing;
 mod footing;
 mod in_use;
+mod lines;
 mod live;
+mod noting;
 mod reading;
 mod seats;
+mod segments;
 mod store;
 
 pub use answers::{Found, Node, NodeFound, Placed, Prepared};
