@@ -10,3 +10,4 @@ pub mod Reading
 pub mod Changes
 pub mod Writing
 pub mod Flushes
+pub mod Checkpointing
