@@ -9,3 +9,4 @@ mod DraftReads
 mod SeatLemmas
 pub mod RunPairs
 pub mod FlushLemmas
+mod MarkLemmas

@@ -3,7 +3,7 @@
 ghost use Rattle.std.specs.Prelude.{◌≡◌, ◌+◌, ◌<◌, ◌≤◌, ◌^◌, [], if◌then◌else◌, ◌++◌, ◌∷◌, IfOk, length, sum};
 ghost use Rattle.std.specs.Vec.{vec_capacity};
 ghost use Rattle.hl_media.specs.Moments.{Runs};
-ghost use Rattle.hl_addr.specs.Layout.{table_blocks, table_blocks_of};
+ghost use Rattle.hl_addr.specs.Layout.{IsWithinLimits, table_blocks, table_blocks_of};
 ghost use Rattle.hl_tables.specs.TableBlocks.{table_block};
 ghost use Rattle.hl_log.specs.Checkpoints.{Checkpoints, IsOf, given_by};
 ghost use Rattle.hl_log.specs.Free.{AreClean};
@@ -30,11 +30,7 @@ fn live_marks(alloc: Global, live: &[u32]) -> Result<Vec<bool>, AllocError>
 }
 
 /// Which of so many log segments the tables say are used.
-fn table_marks(
-    alloc: Global,
-    tables: &Tables,
-    segments: u32,
-) -> Result<Vec<bool>, AllocError>
+fn table_marks(alloc: Global, tables: &Tables, segments: u32) -> Result<Vec<bool>, AllocError>
     requires { segments ≡ length tables.now.used }
     ensures { IfOk result (λ marks. marks.items ≡ tables.now.used) }
 {
@@ -90,6 +86,7 @@ fn write_tables<M: Machine>(
     requires site { let t = tables.now in
         table_blocks_of (length t.used) (length t.inodes) (sum t.slots.volumes)
         ≡ table_blocks log.old.geometry }
+    requires limits { IsWithinLimits log.old.geometry }
     requires clean { AreClean log.old.geometry log.old.at.head.seg clean.now }
     requires segments { length clean.now < 2 ^ 32 }
     requires rec { IsOf log.old.geometry rec.now }
