@@ -10,3 +10,5 @@ mod SeatLemmas
 pub mod RunPairs
 pub mod FlushLemmas
 mod MarkLemmas
+mod TidyDrafts
+mod CheckpointLemmas
