@@ -12,3 +12,5 @@ pub mod FlushLemmas
 mod MarkLemmas
 mod TidyDrafts
 mod CheckpointLemmas
+mod CheckpointSteps
+mod CheckpointStarts
