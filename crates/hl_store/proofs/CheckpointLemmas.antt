@@ -1,35 +1,31 @@
 -- What a checkpoint of a store leaves at each moment, and behind it.
-use Rattle.std.proofs.Common.{◌≡◌, ◌≢◌, inl, inr, ℕ, zero, suc, ◌+◌, ◌-◌, ◌*◌, ◌/◌, ◌<◌, ◌≤◌, Bool, true, false, nat_lt, List, [], ◌∷◌, drop, length, map, get_or, Option, Some, slice_index, refl, sym, ◌∙◌, ap, subst, arith}
-use Rattle.std.specs.Prelude.{Contains, ◌^◌, sum}
+use Rattle.std.proofs.Common.{◌≡◌, inl, inr, ℕ, suc, ◌+◌, ◌-◌, ◌*◌, ◌/◌, ◌≤◌, true, false, nat_lt, List, [], ◌∷◌, length, get_or, Option, Some, slice_index, refl, sym, ◌∙◌, ap, subst, arith}
+use Rattle.std.specs.Prelude.{Contains}
 use Rattle.std.specs.List.{fold}
 use Rattle.std.proofs.lemmas.Bool.{lt-ltb}
 use Rattle.std.proofs.lemmas.List.{get_or-map, length-map, length-replicate}
 use Rattle.std.proofs.lemmas.List.FromFn.{length-map-range_with_len}
 use Rattle.hl_media.specs.History.{History, Image, MachineState}
 use Rattle.hl_media.specs.Moments.{Ends, Runs}
-use Rattle.hl_addr.specs.Layout.{IsWithinLimits, Layout, table_blocks}
+use Rattle.hl_addr.specs.Layout.{Layout, table_blocks}
 use Rattle.hl_addr.proofs.SegmentLemmas.{is_in}
 use Rattle.hl_bytes.specs.declared.records.TableRecord.{TableRecord}
 use Rattle.hl_super.specs.declared.record.Record.{Record}
-use Rattle.hl_image.specs.Newest.{start_of}
-use Rattle.hl_tseg.specs.SlotTable.{SlotTable}
 use Rattle.hl_tables.specs.Laying.{changed}
 use Rattle.hl_tables.specs.TableBlocks.{table_block}
 use Rattle.hl_tables.specs.Values.{TableValues}
 use Rattle.hl_log.specs.declared.position.Position.{Position}
-use Rattle.hl_log.specs.Free.{AreClean, InOneOf}
-use Rattle.hl_log.specs.Rest.{StopLeaves}
+use Rattle.hl_log.specs.Free.{InOneOf}
 use Rattle.hl_log.specs.Units.{Numbered}
-use Rattle.hl_log.specs.Checkpoints.{Checkpoints, Given, HasCheckpointed, restarted_at}
-use Rattle.hl_log.specs.Logs.{LogValue}
+use Rattle.hl_log.specs.Checkpoints.{Checkpoints, HasCheckpointed, restarted_at}
 use Rattle.hl_log.proofs.Wraps.{runs_map}
 use Rattle.hl_nodes.specs.Checkpoints.{IsCheckpointOf, after_checkpoint, contents_of_tables}
-use Rattle.hl_nodes.specs.Contents.{Contents, HasContents, Rests, next_tertiary}
-use Rattle.hl_nodes.specs.Listing.{AreListed, HasKeptListed, HoldsListed, KeepsListed, HasSameListed}
+use Rattle.hl_nodes.specs.Contents.{Contents, Rests, next_tertiary}
+use Rattle.hl_nodes.specs.Listing.{HasKeptListed, HoldsListed, KeepsListed, HasSameListed}
 use Rattle.hl_nodes.specs.Live.{IsLive, IsNodeBlock, NodeBlock}
 use Rattle.hl_nodes.specs.Live.LiveBlock.{OfNode}
 use Rattle.hl_nodes.specs.Moments.{HasSameSound, IsCheckpoint, IsSoundCheckpoint}
-use Rattle.hl_nodes.specs.Sound.{HasSound, IsMarked, IsSound, head_of}
+use Rattle.hl_nodes.specs.Sound.{HasSound, IsMarked}
 use Rattle.hl_nodes.specs.Tables.{raised}
 use Rattle.hl_nodes.proofs.CheckpointLaws.{checkpoint_ends, old_live_kept, ready}
 use Rattle.hl_nodes.proofs.Determined.{one_contents}
@@ -41,7 +37,7 @@ use Rattle.hl_nodes.proofs.UnitLaws.{node_in_log}
 use Rattle.hl_overlay.specs.Overlays.{IsWholeOverlay}
 use Rattle.hl_overlaid.specs.Over.{IsOver}
 use Rattle.hl_overlaid.proofs.ImageLemmas.{over_contents, over_there}
-use Rattle.hl_tally.specs.Tally.{IsTally, Tally}
+use Rattle.hl_tally.specs.Tally.{IsTally}
 use Rattle.hl_tally.specs.Counting.{tables_counted}
 use Rattle.hl_tally.proofs.NumberLaws.{number_none}
 use Rattle.hl_tally.proofs.Segments.{in_logged, logged_within}
@@ -49,7 +45,6 @@ use Rattle.hl_tally.proofs.WrittenLaws.{checkpointed_tally}
 use Rattle.hl_store.specs.Values.{IsTidy, StoreValue, layout, overlaid}
 use Rattle.hl_store.specs.Shapes.{IsShaped}
 use Rattle.hl_store.specs.Lying.{LiesOver}
-use Rattle.hl_store.specs.Flushes.{Holds}
 use Rattle.hl_store.specs.Checkpointing.{GoesOnOver, HasGoneOn, HoldsSame, KeepsContents, MayGoOn, clean_of, given_of, marked, marks_of, renewed}
 use Rattle.hl_store.proofs.MarkLemmas.{clean_high, clean_low, clean_none, clean_segments_are}
 use Rattle.hl_store.proofs.RunPairs.{runs_both}
@@ -105,10 +100,12 @@ module _ {M : Type 0} (v : StoreValue M) (shaped : IsShaped v) (whole : IsWholeO
       marks : (ino : ℕ) (block : NodeBlock) (address : ℕ) → IsNodeBlock (layout v) first.content c.tables ino block address → IsMarked t (address / (layout v).k)
       marks ino block address at =
           let within = logged_within (layout v).k (layout v).log address (in_logged (layout v) address (node_in_log (layout v) first.content c.tables ino block address at)) in
-          let stays = all_stay v shaped whole tidy first.content c lies.rests.has lies.over (OfNode ino block) address at in
-          (within.0, mark_of v.tally.live (address / (layout v).k) within.0 (subst (λ (n : ℕ). address / (layout v).k ≤ n) (sym shaped.live) within.1)
-          (λ none. number_none (layout v) first.content c (overlaid v) v.tally (address / (layout v).k) lies.tally within.0 within.1 none (OfNode ino block)
-          (record { address = address; lies = at; stays = stays; within = refl })))
+          let stays = all_stay v shaped whole tidy first.content c lies.rests.has lies.over (OfNode ino block) address at in (
+            within.0,
+            mark_of v.tally.live (address / (layout v).k) within.0 (subst (λ (n : ℕ). address / (layout v).k ≤ n) (sym shaped.live) within.1)
+                (λ none. number_none (layout v) first.content c (overlaid v) v.tally (address / (layout v).k) lies.tally within.0 within.1 none (OfNode ino block)
+                (record { address = address; lies = at; stays = stays; within = refl })),
+          )
 
       is_sound_checkpoint : IsSoundCheckpoint (layout v) v.log.at v.clean (given_of v) t c first
       is_sound_checkpoint = record { is = is_checkpoint; sound = lies.sound; marks = marks }

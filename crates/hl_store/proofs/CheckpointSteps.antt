@@ -1,21 +1,20 @@
 -- The steps of a checkpoint, and what they make of the store.
-use Rattle.std.proofs.Common.{◌≡◌, ℕ, zero, suc, ◌+◌, ◌-◌, ◌/◌, ◌<◌, ◌≤◌, Bool, true, false, List, [], ◌∷◌, drop, length, length-set, map, nat_lt, Option, slice_index, refl, sym, ◌∙◌, ap, subst, arith}
+use Rattle.std.proofs.Common.{◌≡◌, ℕ, ◌+◌, ◌-◌, ◌/◌, ◌<◌, ◌≤◌, Bool, true, false, List, [], ◌∷◌, drop, length, length-set, map, nat_lt, Option, slice_index, refl, sym, ◌∙◌, ap, subst, arith}
 use Rattle.std.specs.Prelude.{if◌then◌else◌, min, slice_set, sum, ◌^◌}
 use Rattle.std.specs.List.{fold, range_with_len}
 use Rattle.std.specs.Vec.{vec_capacity}
 use Rattle.std.proofs.lemmas.List.{length-map}
 use Rattle.std.proofs.lemmas.List.FromFn.{length-map-range_with_len, length-range_with_len}
-use Rattle.hl_media.specs.History.{History, MachineState}
+use Rattle.hl_media.specs.History.{History}
 use Rattle.hl_media.specs.Moments.{Ends, Runs}
 use Rattle.hl_addr.specs.Layout.{Layout, table_blocks, table_blocks_of}
-use Rattle.hl_super.specs.declared.record.Record.{Record}
 use Rattle.hl_tables.specs.TableBlocks.{table_block}
 use Rattle.hl_tables.specs.Values.{TableValues}
 use Rattle.hl_image.specs.declared.place.LogPlace.{LogPlace}
 use Rattle.hl_log.specs.declared.position.Position.{Position}
 use Rattle.hl_log.specs.declared.unit.UnitAnswer.{UnitAnswer}
 use Rattle.hl_log.specs.declared.unit.UnitAnswer.TheVariants as answer
-use Rattle.hl_log.specs.Checkpoints.{Checkpoints, Given, HasCheckpointed, given_by}
+use Rattle.hl_log.specs.Checkpoints.{Checkpoints, Given, given_by}
 use Rattle.hl_log.specs.Cut.{HasClean}
 use Rattle.hl_log.specs.Logs as logs
 use Rattle.hl_log.specs.Logs.{CheckpointIsWritten, Failed, LogValue}
@@ -27,7 +26,7 @@ use Rattle.hl_tally.proofs.Segments.{length-removed}
 use Rattle.hl_store.specs.declared.checkpointing.Supplies.{Supplies}
 use Rattle.hl_store.specs.Values.{IsTidy, StoreValue, layout}
 use Rattle.hl_store.specs.Shapes.{IsShaped}
-use Rattle.hl_store.specs.Checkpointing.{AreSupplies, CheckpointEndsIn, GoesOnOver, HasTableRoom, IsCheckpointed, KeepsContents, blocks_of_tables, clean_of, given_of, is_clean, marked, marks_of, renewed}
+use Rattle.hl_store.specs.Checkpointing.{AreSupplies, CheckpointEndsIn, GoesOnOver, HasTableRoom, KeepsContents, blocks_of_tables, clean_of, given_of, is_clean, marked, marks_of, renewed}
 use Rattle.hl_store.proofs.MarkLemmas.{clean_segments_are, passed_few}
 use Rattle.hl_store.proofs.CheckpointLemmas.{checkpoint_goes_on, checkpoint_runs}
 
@@ -176,8 +175,19 @@ module _ {M : Type 0} (history : M → Option History) (faults write_faults : M 
           (subst (λ (p : Position). At log.geometry p) (sym (at_else ans not_written ended))
           (subst (λ (g : Layout). At g v.log.at) (sym step.geometry)
           (record {
-            limits = step.shaped.limits; drafts = step.shaped.drafts; uses = step.shaped.uses; inodes = step.shaped.inodes; used = step.shaped.used; blocks = step.shaped.blocks;
-            volumes = step.shaped.volumes; in_use = step.shaped.in_use; live = step.shaped.live; lines = step.shaped.lines; clean = step.shaped.clean; few = step.shaped.few; notes = step.shaped.notes;
+            limits = step.shaped.limits;
+            drafts = step.shaped.drafts;
+            uses = step.shaped.uses;
+            inodes = step.shaped.inodes;
+            used = step.shaped.used;
+            blocks = step.shaped.blocks;
+            volumes = step.shaped.volumes;
+            in_use = step.shaped.in_use;
+            live = step.shaped.live;
+            lines = step.shaped.lines;
+            clean = step.shaped.clean;
+            few = step.shaped.few;
+            notes = step.shaped.notes;
           })))
 
     -- WHERE IT WAS WRITTEN the tables' blocks are counted, and the clean segments are those without a live block
@@ -208,8 +218,19 @@ module _ {M : Type 0} (history : M → Option History) (faults write_faults : M 
           let row = length-range_with_len 1 (length live) in
           subst IsShaped (sym own_is)
           (record {
-            limits = step.shaped.limits; drafts = step.shaped.drafts; uses = step.shaped.uses; inodes = step.shaped.inodes; used = used_size; blocks = step.shaped.blocks;
-            volumes = step.shaped.volumes; in_use = step.shaped.in_use; live = all; lines = step.shaped.lines; clean = clean_segments_are (layout v) log.at.head.seg live all; few = omega arith; notes = step.shaped.notes;
+            limits = step.shaped.limits;
+            drafts = step.shaped.drafts;
+            uses = step.shaped.uses;
+            inodes = step.shaped.inodes;
+            used = used_size;
+            blocks = step.shaped.blocks;
+            volumes = step.shaped.volumes;
+            in_use = step.shaped.in_use;
+            live = all;
+            lines = step.shaped.lines;
+            clean = clean_segments_are (layout v) log.at.head.seg live all;
+            few = omega arith;
+            notes = step.shaped.notes;
           })
 
       written_ends : (a : UnitAnswer) (used : ℕ) → a ≡ answer.Written used → logs.CheckpointEnds history faults write_faults v.clean (given_of v) (contents_of_tables (layout v) (marked v)) v.log log a

@@ -1,5 +1,5 @@
 -- The drafts of a store with nothing dirty: every live block of what lies below goes on being live.
-use Rattle.std.proofs.Common.{◌≡◌, ◌≢◌, inl, inr, ℕ, zero, suc, ◌+◌, ◌<◌, ◌≤◌, ◌==◌, Bool, true, false, not, List, [], ◌∷◌, length, map, filter, Option, Some, None, slice_get, slice_index, is_some, is_none, if◌then◌else◌, refl, sym, ◌∙◌, ap, subst, arith}
+use Rattle.std.proofs.Common.{◌≡◌, ℕ, zero, suc, ◌+◌, ◌<◌, ◌==◌, Bool, true, false, not, List, [], ◌∷◌, length, map, filter, Option, Some, None, slice_get, slice_index, is_some, is_none, if◌then◌else◌, refl, sym, ◌∙◌, ap, subst, arith}
 use Rattle.std.specs.Prelude.{◌&&◌}
 use Rattle.std.proofs.lemmas.Bool.{eqb-true}
 use Rattle.std.proofs.lemmas.List.Sums.{sum_by-cons}
@@ -71,7 +71,7 @@ nowhere d changed none kept = by d.shape refl
         some_blocks (needs_pointer_block d) (count_for d) some none)
     by None is =
         let left : is_freed d ≡ not (d.own == 4294967295) = ap (λ (b : Bool). b && is_none d.shape && not (d.own == 4294967295)) changed
-            ∙ ap (λ (s : Option Shape). true && is_none s && not (d.own == 4294967295)) is in
+        ∙ ap (λ (s : Option Shape). true && is_none s && not (d.own == 4294967295)) is in
         eqb-true d.own 4294967295 (told (d.own == 4294967295) (sym left ∙ kept))
 
 module _ {M : Type 0} (v : StoreValue M) (shaped : IsShaped v) (whole : IsWholeOverlay v.overlay) (tidy : IsTidy v) where

@@ -1,4 +1,4 @@
-use Rattle.std.proofs.Common.{◌<◌, length, subst, ℕ}
+use Rattle.std.proofs.Common.{◌<◌, subst, ℕ}
 use Rattle.hl_store.proofs.MarkLemmas.{mark_more}
 use Rattle.hl_store.proofs.checkpointing.table_marks.Goals as goal
 

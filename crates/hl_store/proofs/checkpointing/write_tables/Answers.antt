@@ -1,4 +1,4 @@
-use Rattle.std.proofs.Common.{◌≡◌, ◌≤◌, List, ℕ, length, sym, ◌∙◌, ap, arith, subst}
+use Rattle.std.proofs.Common.{◌≤◌, List, ℕ, length, sym, ◌∙◌, ap, arith, subst}
 use Rattle.std.proofs.lemmas.List.{length-map}
 use Rattle.std.proofs.lemmas.List.FromFn.{length-map-range_with_len}
 use Rattle.hl_bytes.specs.declared.block.Block.{Block}
@@ -29,10 +29,10 @@ pub returns-in-Ok-clause-crash : goal.returns-in-Ok-clause-crash
 returns-in-Ok-clause-crash g c =
     let bytes = ap (λ (bs : List Block). bytes_of_tables bs) c.as_slice.ensures.value ∙ c.in-Ok.ensures in
     subst (λ (tables : List (List ℕ)). Runs (g.M.Machine.history c.args.log.now.machine) (g.M.Machine.history c.checkpoint.new.self.machine)
-        (Checkpoints c.args.log.now.geometry c.args.log.now.at c.args.clean.now (given_by c.args.log.now.rec.number c.args.rec.now) tables)) bytes c.checkpoint.ensures.crash
+    (Checkpoints c.args.log.now.geometry c.args.log.now.at c.args.clean.now (given_by c.args.log.now.rec.number c.args.rec.now) tables)) bytes c.checkpoint.ensures.crash
 
 pub returns-in-Ok-clause-ends : goal.returns-in-Ok-clause-ends
 returns-in-Ok-clause-ends g c =
     let bytes = ap (λ (bs : List Block). bytes_of_tables bs) c.as_slice.ensures.value ∙ c.in-Ok.ensures in
     subst (λ (tables : List (List ℕ)). CheckpointEnds g.M.Machine.history g.M.Machine.faults g.M.Machine.write_faults c.args.clean.now (given_by c.args.log.now.rec.number c.args.rec.now) tables
-        c.args.log.now c.checkpoint.new.self c.checkpoint.result) bytes c.checkpoint.ensures.ends
+    c.args.log.now c.checkpoint.new.self c.checkpoint.result) bytes c.checkpoint.ensures.ends
