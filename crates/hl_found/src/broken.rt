@@ -5,7 +5,7 @@ use super::*;
 use crate::good::{AWAY, image_with_away, shelf_of};
 use crate::hand_made::{BYTES, put, put_all, put_part, site};
 use crate::verdict::rules_broken;
-use hl_addr::NOTHING;
+use hl_addr::{Geometry, NOTHING};
 use hl_bytes::BlockRecord;
 use hl_nodes::Rule;
 use hl_summary::Heading;
@@ -336,6 +336,7 @@ const TREE_ROWS: [Row; 21] = [
     },
 ];
 
+/// Gives b so many further blocks.
 fn put_further(image: &mut [u8], count: u32) {
     if count <= 60 {
         put(image, (114, 16, 4_096 * (13 + count)));
@@ -345,6 +346,7 @@ fn put_further(image: &mut [u8], count: u32) {
     }
 }
 
+/// Writes the three further parts.
 fn put_lap(image: &mut [u8]) {
     let blocks = [BlockRecord { ino: 3, index: 0 }; 62];
     for (from, count, serial, next_seg) in [(131, 59, 8, 4), (256, 62, 9, 5), (320, 62, 10, 4)] {
@@ -368,22 +370,35 @@ fn put_change(image: &mut [u8], change: &Change) {
     }
 }
 
+/// Tries a row on an image, which may hold anything before.
+fn try_row(
+    rt: &impl Abort,
+    alloc: Global,
+    site: &Geometry,
+    shelf: &[ShelfSegment],
+    good: &[u8],
+    image: &mut [u8],
+    row: &Row,
+) -> Result<(), Fail> {
+    let blocks = site.k as usize * (site.log as usize + 1 + site.lines as usize);
+    assert!(rt; image.len() == BYTES && good.len() == BYTES && 4_096 * blocks <= BYTES);
+    image.copy_from_slice(good);
+    put_change(image, &row.change);
+    let broken = rules_broken(alloc, image, site)?;
+    assert_eq!(rt; broken.as_slice(), row.breaks, "{}", row.name);
+    let files = files_of(alloc, image, site, shelf)?;
+    assert_eq!(rt; files.is_some(), row.has_files, "{}", row.name);
+    Ok(())
+}
+
 /// Tries each row.
 fn try_rows(rt: &impl Abort, alloc: Global, rows: &[Row]) -> Result<(), Fail> {
     let site = site(alloc)?;
     let shelf = shelf_of(alloc)?;
     let good = image_with_away(alloc, &site)?;
     let mut image = good.as_slice().to_vec(alloc)?;
-    let blocks = site.k as usize * (site.log as usize + 1 + site.lines as usize);
     for row in rows {
-        assert!(rt; image.len() == BYTES && good.len() == BYTES && 4_096 * blocks <= BYTES);
-        image.as_mut_slice().copy_from_slice(&good);
-        put_change(&mut image, &row.change);
-        assert!(rt; image.len() == BYTES);
-        let broken = rules_broken(alloc, &image, &site)?;
-        assert_eq!(rt; broken.as_slice(), row.breaks, "{}", row.name);
-        let files = files_of(alloc, &image, &site, &shelf)?;
-        assert_eq!(rt; files.is_some(), row.has_files, "{}", row.name);
+        try_row(rt, alloc, &site, &shelf, &good, image.as_mut_slice(), row)?;
     }
     Ok(())
 }

@@ -1,18 +1,17 @@
 -- A draft that was read is of whatever contents reads give.
-use Rattle.std.proofs.Common.{◌≡◌, ◌≢◌, inl, inr, ℕ, ◌<◌, List, length, slice_get, Option, Some, refl, sym, ◌∙◌, ap, subst}
+use Rattle.std.proofs.Common.{◌≡◌, ◌≢◌, inl, inr, ℕ, ◌<◌, List, slice_get, Option, Some, refl, sym, ◌∙◌, ap, subst}
 use Rattle.std.specs.Prelude.{slice_index}
 use Rattle.std.proofs.lemmas.Option.{get_or_from_slice_get}
-use Rattle.hl_media.specs.History.{History, MachineState, state_now}
-use Rattle.hl_media.specs.Moments.{Now, Runs}
+use Rattle.hl_media.specs.History.{History, state_now}
+use Rattle.hl_media.specs.Moments.{Runs}
 use Rattle.hl_log.specs.Logs.{LogValue}
 use Rattle.hl_log.specs.Rest.{IsUnchanged}
 use Rattle.hl_tables.specs.Values.{TableValues}
 use Rattle.hl_inode.specs.declared.inode.Inode.{Inode}
 use Rattle.hl_nodes.specs.Nodes.{IsInodeAt}
-use Rattle.hl_nodes.specs.Contents.{Contents, HasContents}
+use Rattle.hl_nodes.specs.Contents.{Contents}
 use Rattle.hl_overlay.specs.declared.draft.NodeDraft.{NodeDraft}
 use Rattle.hl_overlay.specs.Drafting.{IsDraft, IsFilled, IsReadDraft, IsUnusedDraft, KeepsDirect}
-use Rattle.hl_overlaid.specs.Reading.{ReadsNode, ReadsPointers, ReadsUnused}
 use Rattle.hl_overlaid.proofs.ReadLemmas.{read_of, unused_of}
 use Rattle.hl_store.specs.Seats.{GivesDraft, GivesInode, GivesLogBlock}
 use Rattle.hl_store.proofs.ReadRuns.{now_before}
@@ -43,6 +42,7 @@ module _ {M : Type 0} (history : M → Option History) (log : LogValue M) (table
         subst (λ a. IsInodeAt log.geometry (state_now h).content number a inode) (sym (entry_of c same number is))
         (subst (λ n. IsInodeAt log.geometry (state_now h).content n own inode) (sym is) (given h told))
 
+    -- and so is the draft that was made of it
     read_there : (c : Contents) → tables.inodes ≡ c.tables.inodes → (number : ℕ) → number ≡ ino → IsReadDraft (slice_index c.tables.inodes number) inode read
     read_there c same number is = subst (λ a. IsReadDraft a inode read) (sym (entry_of c same number is)) of
 

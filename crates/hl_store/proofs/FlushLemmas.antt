@@ -74,13 +74,13 @@ module _ {M : Type 0} (v : StoreValue M) (shaped : IsShaped v) (whole : IsWholeO
   pub is_overlaid : IsOverlaid (layout v) (overlaid v)
   is_overlaid = record { table = whole.table; named = whole.named; numbers = shaped.drafts; each_use = shaped.uses }
 
-  notes_of_slots : All IsOfSlots v.notes
+  pub notes_of_slots : All IsOfSlots v.notes
   notes_of_slots = All-weaker (IsNoteOf (layout v)) IsOfSlots (λ r is. is.0) v.notes shaped.notes
 
   module _ (plan : List ℕ) (bs : List (BlockRecord × Block)) (pieces : List Piece) (rest : List ℕ)
       (are_cut : AreCut (layout v) v.log.at.head v.clean (unit_blocks v.overlay) (length (unit_changes v.overlay v.notes)) pieces rest)
       (plan_is : plan ≡ addresses (layout v) pieces) (adds : AddsAll plan v.uses v.overlay.drafts.items v.overlay.blocks bs) where
-    abbrev u : Brought
+    abbrev pub u : Brought
     u = brought_by bs (unit_changes v.overlay v.notes)
 
     pub size : length bs ≡ unit_blocks v.overlay
@@ -108,7 +108,7 @@ module _ {M : Type 0} (v : StoreValue M) (shaped : IsShaped v) (whole : IsWholeO
       makes = fates_make (layout v) v.log.at v.clean c first lies.rests u pieces rest cut_of (nodes_of v c)
           (makes_now (layout v) v.log.at v.clean (overlaid v) v.notes c bs pieces rest first is_now)
 
-      abbrev after : Contents
+      abbrev pub after : Contents
       after = after_unit (layout v) v.log.at c u pieces (nodes_of v c)
 
       pub serial_behind : next_tertiary after ≡ v.tseg_serial

@@ -5,7 +5,7 @@ use Rattle.hl_bytes.specs.declared.block.Block.{Block}
 use Rattle.hl_bytes.specs.declared.records.BlockRecord.{BlockRecord}
 use Rattle.hl_tables.specs.Values.{SameShape, TableValues}
 use Rattle.hl_tables.proofs.Laid.{same_shape-then}
-use Rattle.hl_tables.specs.Laying.{block_laid, changed}
+use Rattle.hl_tables.specs.Laying.{block_laid, with_inode}
 use Rattle.hl_overlay.specs.declared.draft.NodeDraft.{NodeDraft}
 use Rattle.hl_overlay.specs.Drafting.{is_freed}
 use Rattle.hl_overlay.specs.DraftTables.{freed_of, freed_record}
@@ -43,3 +43,13 @@ laid_more old now next bs items plan n d so_far shape are size lt is same =
           ∙ sym (placed_more old bs plan n d low (subst (λ k. n < k) (sym size) low));
       shape = same_shape-then old now next shape same;
     }
+
+-- blocks that are laid change no slot
+pub placed_slots : (t : TableValues) (rs : List BlockRecord) (plan : List ℕ) → (blocks_placed t rs plan).slots ≡ t.slots
+placed_slots t [] plan = refl
+placed_slots t (r ∷ rs) [] = refl
+placed_slots t (r ∷ rs) (a ∷ plan) = placed_slots (block_laid t a r) rs plan ∙ one (r.index == 4294967295)
+  where
+    one : (own : Bool) → (if own then with_inode t r.ino a else t).slots ≡ t.slots
+    one true = refl
+    one false = refl

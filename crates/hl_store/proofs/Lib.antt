@@ -1,14 +1,25 @@
-pub mod LayLemmas
-pub mod SiteRecords
+mod LayLemmas
+mod SiteRecords
+mod ChargeRoom
+mod UseChanges
+mod ShapeChanges
+mod DropSteps
 mod SegmentLemmas
 mod CountLemmas
-mod ChargeRoom
 mod BlockSteps
 mod ReadRuns
 mod DraftReads
 mod SeatLemmas
-pub mod RunPairs
-pub mod FlushLemmas
+mod RunPairs
+mod FlushLemmas
+mod FlushedLemmas
+mod QuietLemmas
+mod NodeChanges
+mod WriteLemmas
+mod AddressReads
+mod FoundNodes
+mod FoundBlocks
+mod OpenLemmas
 mod MarkLemmas
 mod TidyDrafts
 mod CheckpointLemmas

@@ -1,11 +1,12 @@
 -- Reads change nothing on a machine.
-use Rattle.std.proofs.Common.{◌≡◌, ℕ, ◌+◌, ◌-◌, ◌^◌, ◌≤◌, ◌++◌, Option, Some, refl, ◌∙◌, ap, subst, arith}
-use Rattle.hl_media.specs.History.{History, MachineState, state_now, with_calls}
+use Rattle.std.proofs.Common.{◌≡◌, ℕ, ◌≤◌, ◌++◌, Option, Some, refl, sym, ◌∙◌, ap, subst, arith}
+use Rattle.hl_media.specs.History.{History, MachineState, with_calls}
 use Rattle.hl_media.specs.Moments.{Now, Runs}
 use Rattle.hl_media.specs.Causes.{Rose}
 use Rattle.hl_media.proofs.Runs.{ends_of_run, goes_on, starts}
-use Rattle.hl_log.specs.Logs.{OnlyReads}
+use Rattle.hl_log.specs.Logs.{LogValue, OnlyReads}
 use Rattle.hl_log.specs.Rest.{IsUnchanged}
+use Rattle.hl_store.specs.Values.{StoreValue}
 
 -- a run of reads, and then another
 pub unchanged_then : (before middle now : Option History) → Runs before middle IsUnchanged → Runs middle now IsUnchanged → Runs before now IsUnchanged
@@ -21,10 +22,6 @@ now_before before now P run holds h e =
 -- a count that rose behind an earlier moment rose since
 pub rose_since : (a b c : ℕ) → a ≤ b → Rose b c → Rose a c
 rose_since a b c le rose = omega arith
-
--- and one that rose until then rose until later
-pub rose_until : (a b c : ℕ) → Rose a b → b ≤ c → Rose a c
-rose_until a b c rose le = omega arith
 
 module _ {M : Type 0} {history : M → Option History} {blocks faults write_faults say_faults : M → ℕ} where
   -- no read was made
@@ -47,3 +44,10 @@ module _ {M : Type 0} {history : M → Option History} {blocks faults write_faul
     write_faults_same = more.write_faults_same ∙ run.write_faults_same;
     say_faults_same = more.say_faults_same ∙ run.say_faults_same;
   }
+
+  -- reads from the machine of a store that was opened, and to the machine of a log
+  pub reads_from : {v w : StoreValue M} {now : M} → v ≡ w → OnlyReads history blocks faults write_faults say_faults v.log.machine now → OnlyReads history blocks faults write_faults say_faults w.log.machine now
+  reads_from {v} {w} {now} is run = subst (λ (x : StoreValue M). OnlyReads history blocks faults write_faults say_faults x.log.machine now) is run
+
+  pub reads_to : {before : M} {k l : LogValue M} → k ≡ l → OnlyReads history blocks faults write_faults say_faults before l.machine → OnlyReads history blocks faults write_faults say_faults before k.machine
+  reads_to {before} {k} {l} is run = subst (λ (x : LogValue M). OnlyReads history blocks faults write_faults say_faults before x.machine) (sym is) run

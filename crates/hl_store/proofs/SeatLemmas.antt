@@ -1,5 +1,5 @@
 -- A store with other drafts of the same nodes.
-use Rattle.std.proofs.Common.{Bor, ◌≡◌, ◌≢◌, ◌⊎◌, inl, inr, ℕ, ◌+◌, ◌<◌, true, false, List, [], ◌∷◌, ◌++◌, length, Option, Some, None, is_some, refl, sym, ◌∙◌, ap, subst, arith}
+use Rattle.std.proofs.Common.{Bor, ◌≡◌, inl, inr, ℕ, ◌+◌, ◌<◌, true, false, List, [], ◌∷◌, ◌++◌, length, Option, Some, None, is_some, refl, sym, ◌∙◌, ap, subst, arith}
 use Rattle.std.specs.Prelude.{IsSome}
 use Rattle.std.specs.Option.{option_copied}
 use Rattle.std.proofs.lemmas.Bool.{cases_eq}
@@ -21,7 +21,7 @@ use Rattle.hl_tally.proofs.ReadLaws.{admitted_tally, trimmed_tally}
 use Rattle.hl_store.specs.Values.{StoreValue, dirty_of, layout, nodes_of, overlaid}
 use Rattle.hl_store.specs.Shapes.{IsShaped}
 use Rattle.hl_store.specs.Lying.{LiesOver}
-use Rattle.hl_store.specs.Finding.{KeepsNodes, ReadsNodes}
+use Rattle.hl_store.specs.Finding.{KeepsNodes}
 use Rattle.hl_store.specs.Seats.{GivesDraft, Releases, Seats}
 
 -- what is there is something
@@ -80,12 +80,11 @@ module _ {M : Type 0} where
 
     -- ANOTHER ROOM
     module _ (room : ℕ) (is : o ≡ record old.overlay { room = room }) where
-      roomed : StoreValue M
-      roomed = with_overlay old m (record old.overlay { room = room })
-
+      -- the nodes stay
       pub roomed_nodes : (c : Contents) → nodes_of (with_overlay old m o) c ≡ nodes_of old c
       roomed_nodes c = ap (λ (x : OverlayValue). nodes_of (with_overlay old m x) c) is ∙ room_now (overlaid old) room c.nodes
 
+      -- and the store lies over what it lay over
       pub roomed_lies : (c : Contents) (s : MachineState) → LiesOver old c s → LiesOver (with_overlay old m o) c s
       roomed_lies c s lies = subst (λ (x : OverlayValue). LiesOver (with_overlay old m x) c s) (sym is) (record {
         rests = lies.rests;
@@ -102,7 +101,8 @@ module _ {M : Type 0} where
 
     -- A DRAFT MORE
     module _ (d : NodeDraft) (shaped : IsShaped old) (was : IsWholeOverlay old.overlay) (whole : IsWholeOverlay o) (absent : draft_of old.overlay.drafts d.ino ≡ None) (unchanged : d.changed ≡ false) (redrafts : Redrafts old.overlay.drafts o.drafts d.ino d)
-      (blocks : o.blocks ≡ old.overlay.blocks) where
+        (blocks : o.blocks ≡ old.overlay.blocks) where
+      -- the overlay admits the draft, over the contents
       admits : (c : Contents) (s : MachineState) → LiesOver old c s → IsDraftOf (layout old) s.content c d → AdmitsNow (layout old) s.content c (overlaid old) (overlaid (with_overlay old m o)) d
       admits c s lies of = record {
         change = change_is c s lies shaped was whole redrafts.numbers;
@@ -114,6 +114,7 @@ module _ {M : Type 0} where
         blocks = blocks;
       }
 
+      -- the store lies over what it lay over, with the same nodes
       pub admitted_keeps : (c : Contents) (s : MachineState) → LiesOver old c s → IsDraftOf (layout old) s.content c d → KeepsNodes old (with_overlay old m o) s c
       admitted_keeps c s lies of = record {
         over = lies_with c s lies (admitted_over (layout old) s.content c (overlaid old) (overlaid (with_overlay old m o)) d (admits c s lies of))
@@ -121,6 +122,7 @@ module _ {M : Type 0} where
         nodes = admitted_now (layout old) s.content c (overlaid old) (overlaid (with_overlay old m o)) d (admits c s lies of);
       }
 
+      -- each draft that there was is there
       pub admitted_drafted : (q : ℕ) (e : NodeDraft) → q < (layout old).inodes → draft_of old.overlay.drafts q ≡ Some e → draft_of o.drafts q ≡ Some e
       admitted_drafted q e low at = elim (cases_eq q d.ino) [
         | inl same ↦ absurd (none_some (sym absent ∙ ap (draft_of old.overlay.drafts) (sym same) ∙ at))
@@ -129,20 +131,23 @@ module _ {M : Type 0} where
 
     -- AT MOST SO MANY DRAFTS
     module _ (most : ℕ) (shaped : IsShaped old) (was : IsWholeOverlay old.overlay) (whole : IsWholeOverlay o) (trims : Trims most old.overlay.drafts o.drafts) (blocks : o.blocks ≡ old.overlay.blocks) where
+      -- the overlay's drafts are trimmed, over the contents
       trims_now : (c : Contents) (s : MachineState) → LiesOver old c s → TrimsNow (layout old) s.content c (overlaid old) (overlaid (with_overlay old m o)) most
       trims_now c s lies = record { change = change_is c s lies shaped was whole trims.numbers; uses = refl; trims = trims; blocks = blocks }
 
+      -- the nodes stay
       pub trimmed_nodes : (c : Contents) (s : MachineState) → LiesOver old c s → nodes_of (with_overlay old m o) c ≡ nodes_of old c
       trimmed_nodes c s lies = trimmed_now (layout old) s.content c (overlaid old) (overlaid (with_overlay old m o)) most (trims_now c s lies)
 
+      -- and the store lies over what it lay over
       pub trimmed_lies : (c : Contents) (s : MachineState) → LiesOver old c s → LiesOver (with_overlay old m o) c s
       trimmed_lies c s lies = lies_with c s lies (trimmed_over (layout old) s.content c (overlaid old) (overlaid (with_overlay old m o)) most (trims_now c s lies))
           (trimmed_tally (layout old) (overlaid old) (overlaid (with_overlay old m o)) s.content c old.tally most (trims_now c s lies) lies.tally)
 
   -- A number that is drafted gets room.
   pub roomed_seats : (history : M → Option History) (self t new : StoreValue M) (ino count : ℕ) (o : OverlayValue) → t ≡ self → new ≡ with_overlay t t.log.machine o → o ≡ record t.overlay { room = t.overlay.room + count }
-      → IsSome (draft_of t.overlay.drafts ino) → Seats history self new ino count
-  roomed_seats history self t new ino count o view_is new_is is there =
+      → IsShaped t → IsWholeOverlay t.overlay → IsSome (draft_of t.overlay.drafts ino) → Seats history self new ino count
+  roomed_seats history self t new ino count o view_is new_is is shaped was there =
       subst (λ (x : StoreValue M). Seats history x new ino count) view_is
       (subst (λ (x : StoreValue M). Seats history t x ino count) (sym new_is) (record {
         reads = record {
@@ -154,6 +159,7 @@ module _ {M : Type 0} where
         };
         drafted = subst (λ (x : OverlayValue). IsSome (draft_of x.drafts ino)) (sym is) there;
         room = ap (λ (x : OverlayValue). x.room) is;
+        whole = subst (λ (x : OverlayValue). IsOverlaid (layout t) (overlaid (with_overlay t t.log.machine x))) (sym is) (record { table = was.table; named = was.named; numbers = shaped.drafts; each_use = shaped.uses });
       }))
 
   -- A number that isn't drafted gets the draft that was read, and room.
@@ -173,6 +179,7 @@ module _ {M : Type 0} where
         };
         drafted = some_is (draft_of o.drafts ino) d (ap (draft_of o.drafts) (sym number) ∙ redrafts.drafted);
         room = room;
+        whole = overlaid_is t l.machine o shaped whole redrafts.numbers;
       }))
     where
       new_is : new ≡ with_overlay t l.machine o

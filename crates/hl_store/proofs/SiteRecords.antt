@@ -58,7 +58,7 @@ module _ (inodes tables : ℕ) where
       (one_of_site plan (slice_index uses d.ino) d (shape_wanted d) old middle first (numbered 0 d refl) all)
 
 -- what holds of each member holds of all
-All-from_slice_get : {A : Type 0} (P : A → Type 0) (xs : List A) → ((k : ℕ) (x : A) → slice_get xs k ≡ Some x → P x) → All P xs
+pub All-from_slice_get : {A : Type 0} (P : A → Type 0) (xs : List A) → ((k : ℕ) (x : A) → slice_get xs k ≡ Some x → P x) → All P xs
 All-from_slice_get P xs each k d lt = each k (get_or xs k d) (slice_get-get_or xs k d lt)
 
 -- a number that has a pointer is drafted

@@ -74,8 +74,9 @@ module _ {M : Type 0} where
     pub others : KeepsOtherShapes old new ino
     pub room : new.overlay.room ≡ old.overlay.room
 
-  -- Blocks of a drafted node are holes from one on, and those before it are as they were. No draft changes its shape.
-  pub record DropsFrom (old new : StoreValue M) (ino from : ℕ) : Type 0 where
+  -- Blocks of a drafted node are holes from one on to another, and those before them are as they were. No draft changes its
+  -- shape.
+  pub record DropsBetween (old new : StoreValue M) (ino from end : ℕ) : Type 0 where
     pub beside : KeepsBeside old new
     pub uses : new.uses ≡ old.uses
     pub over : (c : Contents) (s : MachineState) → LiesOver old c s → LiesOver new c s
@@ -84,8 +85,13 @@ module _ {M : Type 0} where
     pub blocks : (c : Contents) (s : MachineState) → LiesOver old c s → (j : ℕ) → j < from
         → block_of_number new c ino j ≡ block_of_number old c ino j
     pub shapes : KeepsShapes old new
-    pub holes : (j : ℕ) → from ≤ j → j < 1036 → holding new.overlay ino j ≡ Some Zeros
+    pub kept : (j : ℕ) → j < from → holding new.overlay ino j ≡ holding old.overlay ino j
+    pub holes : (j : ℕ) → from ≤ j → j < end → holding new.overlay ino j ≡ Some Zeros
     pub room : new.overlay.room ≡ old.overlay.room
+
+  -- all its blocks from one on are
+  abbrev pub DropsFrom : StoreValue M → StoreValue M → ℕ → ℕ → Type 0
+  DropsFrom old new ino from = DropsBetween old new ino from 1036
 
   -- a number is drafted as a node of this kind, or as none
   abbrev pub IsOfKind : StoreValue M → ℕ → Kind → Type 0

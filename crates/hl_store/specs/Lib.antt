@@ -8,6 +8,6 @@ pub mod Finding
 pub mod Seats
 pub mod Reading
 pub mod Changes
-pub mod Writing
 pub mod Flushes
+pub mod Writing
 pub mod Checkpointing

@@ -1,5 +1,5 @@
 -- What lies at an address of the disk.
-use Rattle.std.specs.Prelude.{◌≡◌, ◌⊎◌, ℕ, ◌+◌, ◌<◌, List, Option, Some, None}
+use Rattle.std.specs.Prelude.{◌≡◌, ◌⊎◌, ℕ, ◌+◌, List, Option, Some, None}
 use Rattle.hl_media.specs.History.{History, MachineState}
 use Rattle.hl_media.specs.Moments.{Now}
 use Rattle.hl_media.specs.Causes.{Rose}

@@ -1,5 +1,5 @@
 -- Nodes that are read into drafts.
-use Rattle.std.specs.Prelude.{◌≡◌, ℕ, ◌+◌, ◌≤◌, IsSome, List, length, Option}
+use Rattle.std.specs.Prelude.{◌≡◌, ℕ, ◌+◌, IsSome, List, Option}
 use Rattle.hl_media.specs.History.{History, MachineState}
 use Rattle.hl_media.specs.Moments.{Now}
 use Rattle.hl_media.specs.Causes.{Rose}
@@ -11,10 +11,11 @@ use Rattle.hl_nodes.specs.Contents.{Contents, HasContents}
 use Rattle.hl_nodes.specs.Nodes.{IsInodeAt}
 use Rattle.hl_overlay.specs.declared.draft.NodeDraft.{NodeDraft}
 use Rattle.hl_overlay.specs.DraftTables.{Trims, draft_of}
+use Rattle.hl_overlaid.specs.NodesNow.{IsOverlaid}
 use Rattle.hl_overlaid.specs.Over.{IsDraftOf}
 use Rattle.hl_store.specs.declared.answers.Trouble.{Trouble}
 use Rattle.hl_store.specs.declared.answers.Trouble.TheVariants as trouble
-use Rattle.hl_store.specs.Values.{StoreValue, dirty_of, layout, nodes_of}
+use Rattle.hl_store.specs.Values.{StoreValue, dirty_of, layout, nodes_of, overlaid}
 use Rattle.hl_store.specs.Lying.{LiesOver}
 use Rattle.hl_store.specs.Finding.{ReadsNodes}
 
@@ -37,11 +38,12 @@ module _ {M : Type 0} where
   GivesDraft history log tables ino d = Now (history log.machine) (λ s. (c : Contents) → HasContents log.geometry s.content c
       → tables.inodes ≡ c.tables.inodes → IsDraftOf log.geometry s.content c d)
 
-  -- the number is drafted, with room for so many new blocks more
+  -- the number is drafted in a table of the site's numbers, with room for so many new blocks more
   pub record Seats (history : M → Option History) (old new : StoreValue M) (ino count : ℕ) : Type 0 where
     pub reads : ReadsNodes history old new
     pub drafted : IsSome (draft_of new.overlay.drafts ino)
     pub room : new.overlay.room ≡ old.overlay.room + count
+    pub whole : IsOverlaid (layout new) (overlaid new)
 
   -- The room is given up, and drafts that aren't changed may be gone: the nodes are as they were, and as much is dirty.
   pub record Releases (old new : StoreValue M) : Type 0 where

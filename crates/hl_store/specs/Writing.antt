@@ -1,9 +1,23 @@
 -- A unit of a store.
-use Rattle.std.specs.Prelude.{◌≡◌, ℕ, ◌<◌, List, length, map}
+use Rattle.std.specs.Prelude.{◌≡◌, ℕ, ◌<◌, List, length, map, Option, Some, None}
+use Rattle.std.specs.List.{fold}
 use Rattle.hl_bytes.specs.declared.block.Block.{Block}
 use Rattle.hl_bytes.specs.declared.records.BlockRecord.{BlockRecord}
-use Rattle.hl_tables.specs.Laying.{HasInode}
-use Rattle.hl_tables.specs.Values.{TableValues}
+use Rattle.hl_log.specs.Cut.{IsPlan}
+use Rattle.hl_log.specs.declared.unit.UnitAnswer.{UnitAnswer}
+use Rattle.hl_log.specs.declared.unit.UnitAnswer.TheVariants as answer
+use Rattle.hl_tables.specs.Laying.{HasInode, changed}
+use Rattle.hl_tables.specs.Values.{SameShape, TableValues}
+use Rattle.hl_nodes.specs.Units.{blocks_placed}
+use Rattle.hl_overlay.specs.DraftTables.{freed_of}
+use Rattle.hl_overlay.specs.MadeUnits.{MadeUnitValue}
+use Rattle.hl_overlay.specs.Overlays.{unit_blocks}
+use Rattle.hl_overlaid.specs.Units.{unit_changes}
+use Rattle.hl_tally.specs.Tally.{Tally}
+use Rattle.hl_tally.specs.Counting.{added}
+use Rattle.hl_store.specs.declared.flushing.PlannedUnit.{PlannedUnit}
+use Rattle.hl_store.specs.Values.{StoreValue, layout}
+use Rattle.hl_store.specs.Flushes.{HasUnitRoom}
 
 -- the records of blocks
 abbrev pub records_of : List (BlockRecord × Block) → List BlockRecord
@@ -12,3 +26,26 @@ records_of blocks = map (λ b. b.0) blocks
 -- the inode of a block exists, where the block is its own
 abbrev pub HasInodeOf : TableValues → BlockRecord × Block → Type 0
 HasInodeOf t b = HasInode t b.0
+
+-- a unit is laid over the tables, and its blocks are counted
+pub record IsLaid (k : ℕ) (plan : List ℕ) (made : MadeUnitValue) (old new : TableValues) (before now : Tally) : Type 0 where
+  pub tables : new ≡ fold changed (blocks_placed old (records_of made.blocks) plan) (freed_of made.drafts.items)
+  pub shape : SameShape old new
+  pub tally : now ≡ record before { live = fold (added k) before.live plan }
+
+-- where it was written, and else nothing changes
+abbrev pub Lays : ℕ → List ℕ → MadeUnitValue → TableValues → TableValues → Tally → Tally → UnitAnswer → Type 0
+Lays k plan made old new before now (answer.Written used) = IsLaid k plan made old new before now
+Lays k plan made old new before now answer.LogFull = (new ≡ old) × (now ≡ before)
+Lays k plan made old new before now answer.DiskFault = (new ≡ old) × (now ≡ before)
+Lays k plan made old new before now answer.Memory = (new ≡ old) × (now ≡ before)
+
+-- the changes of the next unit of a store, and the addresses of its blocks
+pub record IsPlannedUnit {M : Type 0} (v : StoreValue M) (p : PlannedUnit) : Type 0 where
+  pub changes : p.changes.items ≡ unit_changes v.overlay v.notes
+  pub plan : IsPlan (layout v) v.log.at.head v.clean (unit_blocks v.overlay) (length (unit_changes v.overlay v.notes)) p.plan.items
+
+-- or there are too few clean segments for it
+abbrev pub IsPlanned : {M : Type 0} → StoreValue M → Option PlannedUnit → Type 0
+IsPlanned v None = ¬ HasUnitRoom v
+IsPlanned v (Some p) = IsPlannedUnit v p

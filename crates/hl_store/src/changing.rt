@@ -11,7 +11,7 @@ ghost use Rattle.hl_overlay.specs.Overlays.Holding.{Zeros};
 ghost use Rattle.hl_overlaid.specs.Changes.{KeepsKind};
 ghost use Rattle.hl_store.specs.Values.{layout};
 ghost use Rattle.hl_store.specs.Shapes.{IsNumber};
-ghost use Rattle.hl_store.specs.Changes.{Always, DropsFrom, HasSegmentAt, IsOfKind, MayGoAway};
+ghost use Rattle.hl_store.specs.Changes.{Always, DropsBetween, DropsFrom, HasSegmentAt, IsOfKind, MayGoAway};
 ghost use Rattle.hl_store.specs.Changes.{PutsInto, Reshapes, StaysIn, Touches, shape_of};
 
 use crate::answers::Node;
@@ -78,7 +78,7 @@ impl<M: Machine> Store<M> {
         ensures uses { self.new.uses ≡ slice_set self.old.uses ino node.now.used }
     {
         self.drop_from(ino, blocks_of(node.size));
-        self.uses[ino as usize] = node.used;
+        self.touch(ino, node.used);
         let shape = Shape {
             kind: node.kind,
             size: node.size,
@@ -100,8 +100,10 @@ impl<M: Machine> Store<M> {
     /// Sets the last use of a number. Nothing is dirty by that.
     pub fn touch(&mut self, ino: u32, now: u64)
         requires number { IsNumber self.old ino }
-        ensures { Touches self.old self.new ino now }
+        ensures touches { Touches self.old self.new ino now }
+        ensures uses { self.new.uses ≡ slice_set self.old.uses ino now }
     {
+        let _ = self.overlay.others();
         self.uses[ino as usize] = now;
     }
 
@@ -157,9 +159,19 @@ impl<M: Machine> Store<M> {
             None => unreachable!(),
         };
         'blocks: for i in from..end {
-            if !self.overlay.is_hole(ino, i) {
-                self.clear(ino, i);
-            }
+            self.drop_block(ino, i);
+        }
+        let _ = self.overlay.others();
+    }
+
+    /// Makes a block of a drafted node a hole, if it isn't.
+    fn drop_block(&mut self, ino: u32, i: u32)
+        requires number { IsNumber self.old ino }
+        requires block { HasBlock self.old.overlay.drafts ino i }
+        ensures { DropsBetween self.old self.new ino i (i + 1) }
+    {
+        if !self.overlay.is_hole(ino, i) {
+            self.clear(ino, i);
         }
     }
 
@@ -178,6 +190,7 @@ impl<M: Machine> Store<M> {
             None => unreachable!(),
         };
         self.overlay.set_shape(ino, shape);
+        let _ = self.overlay.others();
         self.counts.change_shape(k, ino, &was, before, shape);
     }
 }

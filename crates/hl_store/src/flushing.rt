@@ -1,23 +1,30 @@
 //! Making the nodes that a store has now those of every image.
 
-ghost use Rattle.std.specs.Prelude.{◌≡◌, ◌<◌, ◌≤◌, ◌↔◌, All, IfOk, IsTrue, OnErr, if◌then◌else◌, length};
+ghost use Rattle.std.specs.Prelude.{◌≡◌, ◌<◌, ◌≤◌, ◌^◌, ◌↔◌, All, IfOk, IsTrue, OnErr, if◌then◌else◌, length};
 ghost use Rattle.std.specs.List.{fold};
 ghost use Rattle.hl_tables.specs.Laying.{HasInode, block_laid, changed};
 ghost use Rattle.hl_tables.specs.Values.{SameShape};
 ghost use Rattle.hl_nodes.specs.Units.{blocks_placed};
-ghost use Rattle.hl_store.specs.Writing.{HasInodeOf, records_of};
+ghost use Rattle.hl_store.specs.Shapes.{IsShaped};
+ghost use Rattle.hl_store.specs.Writing.{HasInodeOf, IsPlanned, Lays, records_of};
 ghost use Rattle.hl_media.specs.Moments.{Runs};
+ghost use Rattle.hl_log.specs.Free.{AreClean};
+ghost use Rattle.hl_log.specs.Loads.{AreOf};
+ghost use Rattle.hl_log.specs.Logs.{UnitEnds};
 ghost use Rattle.hl_log.specs.Rest.{SaysNothing};
+ghost use Rattle.hl_log.specs.Units.{WritesUnit};
 ghost use Rattle.hl_overlay.specs.Drafting.{is_freed};
 ghost use Rattle.hl_overlay.specs.DraftTables.{freed_of, freed_record};
-ghost use Rattle.hl_overlaid.specs.Units.{unit_changes};
+ghost use Rattle.hl_overlay.specs.Overlays.{IsWholeOverlay, unit_blocks};
+ghost use Rattle.hl_overlaid.specs.Units.{brought_by, unit_changes};
 
-use crate::store::Store;
+use crate::counts::Counts;
+use crate::store::{Store, not_taken};
 use hl_addr::NOTHING;
 use hl_bytes::{BlockRecord, TableRecord};
-use hl_log::{Unit, UnitAnswer};
+use hl_log::{Log, Unit, UnitAnswer};
 use hl_media::Machine;
-use hl_overlay::NodeDraft;
+use hl_overlay::{MadeUnit, NodeDraft};
 use hl_summary::INODE;
 use hl_tables::Tables;
 use std::alloc::{AllocError, Global};
@@ -71,15 +78,63 @@ fn lay_freed(tables: &mut Tables, drafts: &[NodeDraft])
     }
 }
 
+/// Writes a unit whose blocks have the addresses of the plan. Where it was written it is laid over the tables, and its blocks
+/// are counted.
+fn write_made<M: Machine>(
+    log: &mut Log<M>,
+    tables: &mut Tables,
+    counts: &mut Counts,
+    clean: &[u32],
+    plan: &[u32],
+    made: &MadeUnit,
+) -> UnitAnswer
+    requires clean { AreClean log.old.geometry log.old.at.head.seg clean.now }
+    requires segments { length clean.now < 2 ^ 32 }
+    requires k { 0 < log.old.geometry.k }
+    requires unit { AreOf log.old.geometry (records_of made.now.blocks) made.now.tables }
+    requires few { length made.now.blocks < 2 ^ 32 }
+    requires plan { length plan.now ≡ length made.now.blocks }
+    requires inodes { All (HasInodeOf tables.old) made.now.blocks }
+    requires drafts { All (λ d. d.ino < length tables.old.inodes) made.now.drafts.items }
+    ensures crash { let u = brought_by made.now.blocks made.now.tables in
+        Runs (M.history log.old.machine) (M.history log.new.machine)
+        (WritesUnit log.old.geometry log.old.at clean.now u) }
+    ensures silent { Runs (M.history log.old.machine) (M.history log.new.machine) SaysNothing }
+    ensures ends { let u = brought_by made.now.blocks made.now.tables in
+        UnitEnds M.history M.faults M.write_faults clean.now u log.old log.new result }
+    ensures laid { Lays log.old.geometry.k plan.now made.now tables.old tables.new
+        counts.old counts.new result }
+    ensures geometry { log.new.geometry ≡ log.old.geometry }
+    ensures blocks { M.blocks log.new.machine ≡ M.blocks log.old.machine }
+    ensures faults { M.faults log.old.machine ≤ M.faults log.new.machine }
+    ensures write_faults { M.write_faults log.old.machine ≤ M.write_faults log.new.machine }
+    ensures say_faults { M.say_faults log.new.machine ≡ M.say_faults log.old.machine }
+{
+    let answer = log.write_unit(made.unit(), clean);
+    if let UnitAnswer::Written { .. } = answer {
+        lay_inodes(tables, plan, made.unit());
+        lay_freed(tables, made.drafts());
+        counts.add_blocks(log.geometry().k, plan);
+    }
+    answer
+}
+
+/// The changes of a unit, and the addresses that its blocks get.
+#[derive(Drop)]
+struct PlannedUnit {
+    changes: Vec<TableRecord>,
+    plan: Vec<u32>,
+}
+
 impl<M: Machine> Store<M> {
     ghost use Rattle.hl_store.specs.Flushes.{FlushEnds, Flushes, WriteEnds};
     ghost use Rattle.hl_store.specs.Values.{IsTidy};
 
-    /// Whether the next unit would have anything.
-    fn is_dirty(&self) -> bool
-        ensures { IsTrue result ↔ ¬ IsTidy self.now }
+    /// Whether the next unit would have nothing.
+    fn is_tidy(&self) -> bool
+        ensures { IsTrue result ↔ IsTidy self.now }
     {
-        self.dirty() != 0 || !self.notes.as_slice().is_empty()
+        self.dirty() == 0 && self.notes.as_slice().is_empty()
     }
 
     /// The changes of the tables that the next unit is to have.
@@ -90,6 +145,26 @@ impl<M: Machine> Store<M> {
         self.overlay.push_freed(&mut changes)?;
         changes.extend_from_slice(self.notes.as_slice())?;
         Ok(changes)
+    }
+
+    /// The changes of the next unit and the addresses of its blocks. None where there are too few clean segments. Want of
+    /// memory counts also where it would have 2^32 changes.
+    fn plan_unit(&self, alloc: Global) -> Result<Option<PlannedUnit>, AllocError>
+        ensures planned { IfOk result (IsPlanned self.now) }
+        ensures whole { IsWholeOverlay self.now.overlay }
+        ensures shape { IsShaped self.now }
+        ensures few { unit_blocks self.now.overlay < 2 ^ 32 }
+    {
+        let blocks = self.overlay.new_blocks() + self.overlay.others();
+        let clean = self.clean();
+        let changes = self.changes(alloc)?;
+        let Ok(tables) = u32::try_from(changes.as_slice().len()) else {
+            return Err(AllocError);
+        };
+        match self.log.plan(alloc, blocks, tables, clean)? {
+            Some(plan) => Ok(Some(PlannedUnit { changes, plan })),
+            None => Ok(None),
+        }
     }
 
     /// Writes the unit of what is dirty.
@@ -108,30 +183,27 @@ impl<M: Machine> Store<M> {
         ensures say_faults { M.say_faults self.new.log.machine
             ≡ M.say_faults self.old.log.machine }
     {
-        let changes = self.changes(alloc)?;
-        if changes.as_slice().len() > u32::MAX as usize {
-            return Err(AllocError);
-        }
-        let others = self.overlay.others();
-        let blocks = self.overlay.new_blocks() + others;
-        let tables = changes.as_slice().len() as u32;
-        let planned = self.log.plan(alloc, blocks, tables, &self.clean.as_slice()[self.taken..])?;
-        let Some(plan) = planned else {
+        let Some(PlannedUnit { changes, plan }) = self.plan_unit(alloc)? else {
             return Ok(UnitAnswer::LogFull);
         };
-        self.overlay.reserve(others)?;
+        self.overlay.reserve(self.overlay.others())?;
+        let plan = plan.as_slice();
         let made = self
             .overlay
-            .make(alloc, plan.as_slice(), self.uses.as_slice(), changes);
-        let answer = self.log.write_unit(made.unit(), &self.clean.as_slice()[self.taken..]);
+            .make(alloc, plan, self.uses.as_slice(), changes);
+        let clean = not_taken(&self.clean, self.taken);
+        let answer = write_made(
+            &mut self.log,
+            &mut self.tables,
+            &mut self.counts,
+            clean,
+            plan,
+            &made,
+        );
         let UnitAnswer::Written { used } = answer else {
             self.overlay = made.undone();
             return Ok(answer);
         };
-        let k = self.log.geometry().k;
-        lay_inodes(&mut self.tables, plan.as_slice(), made.unit());
-        lay_freed(&mut self.tables, made.drafts());
-        self.counts.add_blocks(k, plan.as_slice());
         self.taken += used as usize;
         self.notes.clear();
         self.overlay = made.settled();
@@ -157,7 +229,7 @@ impl<M: Machine> Store<M> {
         ensures say_faults { M.say_faults self.new.log.machine
             ≡ M.say_faults self.old.log.machine }
     {
-        if !self.is_dirty() {
+        if self.is_tidy() {
             return UnitAnswer::Written { used: 0 };
         }
         if self.clean().len() < CLEAN_MIN {

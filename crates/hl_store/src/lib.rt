@@ -21,6 +21,3 @@ mod store;
 pub use answers::{Found, Node, NodeFound, Placed, Prepared};
 pub use flushing::CLEAN_MIN;
 pub use store::{Store, StoreParts};
-
-#[cfg(test)]
-mod tests;

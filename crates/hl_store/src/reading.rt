@@ -105,16 +105,19 @@ impl<M: Machine> Store<M> {
             out.fill(0);
             return Found::Hole;
         }
-        match self.overlay.block(ino, i) {
-            Some(BlockNow::Bytes(bytes)) => {
-                out.copy_from_slice(bytes);
-                Found::Bytes
-            }
-            Some(BlockNow::Kept(addr)) => read_at(&mut self.log, &self.lines, addr, out),
-            Some(BlockNow::Moved { addr, .. }) => read_at(&mut self.log, &self.lines, addr, out),
-            Some(BlockNow::Hole) | None => {
+        let Some(now) = self.overlay.block(ino, i) else {
+            unreachable!()
+        };
+        match now {
+            BlockNow::Hole => {
                 out.fill(0);
                 Found::Hole
+            }
+            BlockNow::Kept(addr) => read_at(&mut self.log, &self.lines, addr, out),
+            BlockNow::Moved { addr, .. } => read_at(&mut self.log, &self.lines, addr, out),
+            BlockNow::Bytes(bytes) => {
+                out.copy_from_slice(bytes);
+                Found::Bytes
             }
         }
     }
@@ -135,11 +138,14 @@ impl<M: Machine> Store<M> {
         if BLOCKS_MAX <= i {
             return Placed::Hole;
         }
-        match self.overlay.block(ino, i) {
-            Some(BlockNow::Bytes(_)) => Placed::Here,
-            Some(BlockNow::Kept(addr)) => where_at(&self.log, addr),
-            Some(BlockNow::Moved { addr, .. }) => where_at(&self.log, addr),
-            Some(BlockNow::Hole) | None => Placed::Hole,
+        let Some(now) = self.overlay.block(ino, i) else {
+            unreachable!()
+        };
+        match now {
+            BlockNow::Hole => Placed::Hole,
+            BlockNow::Kept(addr) => where_at(&self.log, addr),
+            BlockNow::Moved { addr, .. } => where_at(&self.log, addr),
+            BlockNow::Bytes(_) => Placed::Here,
         }
     }
 }

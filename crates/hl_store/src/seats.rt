@@ -26,7 +26,11 @@ const KEPT: usize = 64;
 ghost use Rattle.hl_store.specs.Seats.{GivesDraft, GivesInode, GivesLogBlock, IsCaused};
 
 /// Reads a block of the log. An address elsewhere counts as want of memory.
-pub(crate) fn read_block<M: Machine>(log: &mut Log<M>, addr: u32, out: &mut [u8]) -> Result<(), Trouble>
+pub(crate) fn read_block<M: Machine>(
+    log: &mut Log<M>,
+    addr: u32,
+    out: &mut [u8],
+) -> Result<(), Trouble>
     requires { length out.old ≡ 4096 }
     ensures bytes { OnOk result (GivesLogBlock M.history log.old addr out.new) }
     ensures size { length out.new ≡ 4096 }

@@ -1,6 +1,6 @@
 //! The store.
 
-ghost use Rattle.std.specs.Prelude.{◌≡◌, ◌+◌, ◌-◌, ◌<◌, ◌≤◌, ◌^◌, true, IfOk, IfErr, length, replicate, slice_get, Some};
+ghost use Rattle.std.specs.Prelude.{◌≡◌, ◌+◌, ◌-◌, ◌<◌, ◌≤◌, ◌^◌, true, IfOk, IfErr, drop, length, replicate, slice_get, Some};
 ghost use Rattle.hl_store.specs.Opening.{AreInUse};
 
 use crate::counts::Counts;
@@ -235,8 +235,16 @@ impl<M: Machine> Store<M> {
         ensures value { result.now ≡ self.now.clean }
         ensures shape { IsShaped self.now }
     {
-        &self.clean.as_slice()[self.taken..]
+        not_taken(&self.clean, self.taken)
     }
+}
+
+/// The clean segments behind the first, which were taken.
+pub(crate) fn not_taken(clean: &Vec<u32>, taken: usize) -> &[u32]
+    requires { taken ≤ length clean.now.items }
+    ensures { result.now ≡ drop taken clean.now.items }
+{
+    &clean.as_slice()[taken..]
 }
 
 /// Which numbers the tables have an inode for, from 1 on; number 0 is never given.

@@ -1,9 +1,7 @@
-use Rattle.std.proofs.Common.{◌≡◌, refl, sym, ◌∙◌, ap, subst}
-use Rattle.hl_media.specs.Moments.{Now}
-use Rattle.hl_log.specs.Logs.{LogValue, OnlyReads}
+use Rattle.std.proofs.Common.{sym, ◌∙◌, ap, subst}
 use Rattle.hl_overlay.specs.declared.draft.NodeDraft.{NodeDraft}
 use Rattle.hl_store.specs.Seats.{GivesDraft}
-use Rattle.hl_store.proofs.ReadRuns.{reads_then}
+use Rattle.hl_store.proofs.ReadRuns.{reads_then, reads_to}
 use Rattle.hl_store.proofs.DraftReads.{far_given, near_given, unused_given}
 use Rattle.hl_store.proofs.seats.read_draft.Goals as goal
 use Rattle.hl_store.proofs.seats.read_draft.Goals.{then-inode+in_ok-read_block, else-inode}
@@ -34,7 +32,6 @@ returns-clause-number g c = elim c.if-inode.branch [
 
 pub returns-clause-machine : goal.returns-clause-machine
 returns-clause-machine g c = elim c.if-inode.branch [
-  | then-inode+in_ok-read_block w ↦ subst (λ (l : LogValue g.row.M.Denot). OnlyReads {M = g.row.M.Denot} g.M.Machine.history g.M.Machine.blocks g.M.Machine.faults g.M.Machine.write_faults g.M.Machine.say_faults c.args.log.now.machine l.machine) (sym w.log-is)
-      (reads_then c.in_ok-inode.ensures.machine w.in_ok-read_block.ensures.machine)
-  | else-inode w ↦ subst (λ (l : LogValue g.row.M.Denot). OnlyReads {M = g.row.M.Denot} g.M.Machine.history g.M.Machine.blocks g.M.Machine.faults g.M.Machine.write_faults g.M.Machine.say_faults c.args.log.now.machine l.machine) (sym w.log-is) c.in_ok-inode.ensures.machine
+  | then-inode+in_ok-read_block w ↦ reads_to w.log-is (reads_then c.in_ok-inode.ensures.machine w.in_ok-read_block.ensures.machine)
+  | else-inode w ↦ reads_to w.log-is c.in_ok-inode.ensures.machine
 ]

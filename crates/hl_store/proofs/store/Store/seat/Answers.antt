@@ -1,18 +1,16 @@
-use Rattle.std.proofs.Common.{◌≡◌, refl, sym, ◌∙◌, ap, subst}
-use Rattle.hl_log.specs.Logs.{OnlyReads}
-use Rattle.hl_store.specs.Values.{StoreValue}
-use Rattle.hl_store.proofs.ReadRuns.{reads_none, reads_then}
+use Rattle.std.proofs.Common.{refl, sym}
+use Rattle.hl_store.proofs.ReadRuns.{reads_from, reads_none}
 use Rattle.hl_store.proofs.SeatLemmas.{admitted_seats, found_none, found_some, roomed_seats}
 use Rattle.hl_store.proofs.store.Store.seat.Goals as goal
 
 pub returns-in_err-reserve-clause-machine : goal.returns-in_err-reserve-clause-machine
-returns-in_err-reserve-clause-machine g c = subst (λ (v : StoreValue g.row.M.Denot). OnlyReads {M = g.row.M.Denot} g.M.Machine.history g.M.Machine.blocks g.M.Machine.faults g.M.Machine.write_faults g.M.Machine.say_faults v.log.machine c.self.inside.log.machine) c.self.view_is reads_none
+returns-in_err-reserve-clause-machine g c = reads_from c.self.view_is reads_none
 
 pub returns-in_ok-reserve-clause-ok : goal.returns-in_ok-reserve-clause-ok
-returns-in_ok-reserve-clause-ok g c = roomed_seats {M = g.row.M.Denot} g.M.Machine.history _ _ _ c.args.ino c.args.count c.reserve.new.self c.self.view_is refl c.in_ok-reserve.ensures.ok (found_some c.draft.result _ (sym c.if-is_some.ensures) c.draft.ensures.value)
+returns-in_ok-reserve-clause-ok g c = roomed_seats {M = g.row.M.Denot} g.M.Machine.history _ _ _ c.args.ino c.args.count c.reserve.new.self c.self.view_is refl c.in_ok-reserve.ensures.ok c.self.invariant.shape c.draft.ensures.whole (found_some c.draft.result _ (sym c.if-is_some.ensures) c.draft.ensures.value)
 
 pub returns-in_ok-reserve-clause-machine : goal.returns-in_ok-reserve-clause-machine
-returns-in_ok-reserve-clause-machine g c = subst (λ (v : StoreValue g.row.M.Denot). OnlyReads {M = g.row.M.Denot} g.M.Machine.history g.M.Machine.blocks g.M.Machine.faults g.M.Machine.write_faults g.M.Machine.say_faults v.log.machine c.self.inside.log.machine) c.self.view_is reads_none
+returns-in_ok-reserve-clause-machine g c = reads_from c.self.view_is reads_none
 
 pub returns-in_ok-admit-clause-ok : goal.returns-in_ok-admit-clause-ok
 returns-in_ok-admit-clause-ok g c = admitted_seats {M = g.row.M.Denot} g.M.Machine.history _ _ _ c.args.ino c.args.count c.read_draft.new.log c.admit.new.self c.in_ok-draft.draft c.self.view_is refl c.in_ok-draft.ensures.same
