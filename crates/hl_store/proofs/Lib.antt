@@ -22,3 +22,8 @@ mod FoundBlocks
 mod OpenLemmas
 mod LineSteps
 mod NoteSteps
+mod MarkLemmas
+mod TidyDrafts
+mod CheckpointLemmas
+mod CheckpointSteps
+mod CheckpointStarts

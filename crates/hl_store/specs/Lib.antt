@@ -12,3 +12,4 @@ pub mod Flushes
 pub mod Writing
 pub mod LineWrites
 pub mod Noting
+pub mod Checkpointing

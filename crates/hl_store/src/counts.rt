@@ -3,7 +3,7 @@
 ghost use Rattle.std.specs.Prelude.{◌≡◌, ◌+◌, ◌<◌, ◌≤◌, ◌^◌, MatchOption, length, slice_get, Some};
 ghost use Rattle.hl_addr.specs.Layout.{Layout};
 ghost use Rattle.hl_overlay.specs.declared.draft.NodeDraft.{NodeDraft as Draft};
-ghost use Rattle.hl_tally.specs.Counting.{added, charge_at, far_charge, own_charge, without_own};
+ghost use Rattle.hl_tally.specs.Counting.{added, charge_at, far_charge, own_charge, removed, without_own};
 ghost use Rattle.hl_store.specs.Footings.{footing_of};
 ghost use Rattle.hl_store.specs.Numbers.{AreAllUsed, IsLowestFree};
 
@@ -139,6 +139,16 @@ impl Counts {
     {
         'blocks: for addr in plan {
             add_live(k, &mut self.live, *addr);
+        }
+    }
+
+    /// Blocks at these addresses aren't live any more.
+    pub(crate) fn remove_blocks(&mut self, k: u32, gone: &[u32])
+        requires { 0 < k }
+        ensures { self.new ≡ record self.old { live = fold (removed k) self.old.live gone.now } }
+    {
+        'blocks: for addr in gone {
+            remove_live(k, &mut self.live, *addr);
         }
     }
 

@@ -8,6 +8,7 @@
 
 mod answers;
 mod changing;
+mod checkpointing;
 mod counts;
 mod flushing;
 mod footing;
