@@ -139,7 +139,8 @@ impl<M: Machine> Store<M> {
 
     /// The changes of the tables that the next unit is to have.
     fn changes(&self, alloc: Global) -> Result<Vec<TableRecord>, AllocError>
-        ensures { IfOk result (λ changes. changes.items ≡ unit_changes self.now.overlay self.now.notes) }
+        ensures { IfOk result (λ changes.
+            changes.items ≡ unit_changes self.now.overlay self.now.notes) }
     {
         let mut changes = Vec::new(alloc);
         self.overlay.push_freed(&mut changes)?;

@@ -85,8 +85,9 @@ impl<M: Machine> Store<M> {
         }
     }
 
-    /// Reads block `i` of a node into `out`; one past the end is a hole. `Away` comes exactly where the block is away and
-    /// its segment has no line. The inode and its pointer block are read once and kept.
+    /// Reads block `i` of a node into `out`, of 4096 bytes; one past the end is a hole, and so is any of a number that isn't
+    /// in use. `Away` comes exactly where the block is away and its segment has no line. The inode and its pointer block are
+    /// read once and kept.
     pub fn block(&mut self, alloc: Global, ino: u32, i: u32, out: &mut [u8]) -> Found
         requires number { IsNumber self.old ino }
         requires size { length out.old ≡ 4096 }
@@ -122,7 +123,8 @@ impl<M: Machine> Store<M> {
         }
     }
 
-    /// Where block `i` of a node is; one past the end is a hole.
+    /// Where block `i` of a node is; one past the end is a hole, and so is any of a number that isn't in use. The block itself
+    /// isn't read.
     pub fn place(&mut self, alloc: Global, ino: u32, i: u32) -> Placed
         requires number { IsNumber self.old ino }
         ensures found { FindsPlace M.history M.faults self.old self.new ino i result }
