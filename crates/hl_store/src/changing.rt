@@ -89,7 +89,7 @@ impl<M: Machine> Store<M> {
         self.reshape(ino, Some(shape));
     }
 
-    /// Makes the number of a node that is prepared free.
+    /// Makes the number of a node that is prepared free, and its blocks are gone.
     pub fn free(&mut self, ino: u32)
         requires number { IsNumber self.old ino }
         requires prepared { IsSome (draft_of self.old.overlay.drafts ino) }

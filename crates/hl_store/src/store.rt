@@ -245,7 +245,7 @@ impl<M: Machine> Store<M> {
     }
 }
 
-/// The clean segments behind the first, which were taken.
+/// The clean segments behind the first so many, which are taken.
 pub(crate) fn not_taken(clean: &Vec<u32>, taken: usize) -> &[u32]
     requires { taken ≤ length clean.now.items }
     ensures { result.now ≡ drop taken clean.now.items }
