@@ -39,19 +39,23 @@ module _ {M : Type 0} where
 
   -- each other number is drafted as it was
   abbrev pub KeepsOtherShapes : StoreValue M → StoreValue M → ℕ → Type 0
-  KeepsOtherShapes old new ino = (q : ℕ) → q < (layout old).inodes → q ≢ ino → drafted_shape new q ≡ drafted_shape old q
+  KeepsOtherShapes old new ino =
+      (q : ℕ) → q < (layout old).inodes → q ≢ ino → drafted_shape new q ≡ drafted_shape old q
 
-  -- each number is
+  -- each number is drafted as it was
   abbrev pub KeepsShapes : StoreValue M → StoreValue M → Type 0
-  KeepsShapes old new = (q : ℕ) → q < (layout old).inodes → drafted_shape new q ≡ drafted_shape old q
+  KeepsShapes old new =
+      (q : ℕ) → q < (layout old).inodes → drafted_shape new q ≡ drafted_shape old q
 
   -- only drafts, what is counted of nodes and last uses may have changed
   abbrev pub KeepsBeside : StoreValue M → StoreValue M → Type 0
-  KeepsBeside old new = new ≡ record old { overlay = new.overlay; uses = new.uses; tally = new.tally }
+  KeepsBeside old new =
+      new ≡ record old { overlay = new.overlay; uses = new.uses; tally = new.tally }
 
   -- A call gives one number another node or none, where the contents allow it: over whatever contents the store lay it lies
   -- still, and no other node changes. It calls no device.
-  pub record ChangesNode (old new : StoreValue M) (ino : ℕ) (Allowed : Contents → Type 0) (change : Option FlatNode → Option FlatNode) : Type 0 where
+  pub record ChangesNode (old new : StoreValue M) (ino : ℕ) (Allowed : Contents → Type 0)
+      (change : Option FlatNode → Option FlatNode) : Type 0 where
     pub beside : KeepsBeside old new
     pub over : (c : Contents) (s : MachineState) → LiesOver old c s → Allowed c → LiesOver new c s
     pub nodes : (c : Contents) (s : MachineState) → LiesOver old c s
@@ -62,8 +66,10 @@ module _ {M : Type 0} where
   StaysIn v serial c = KeepsSerial c.tables.slots v.tables.slots serial
 
   -- A block of a node is put, and the node is used when its number was. No draft changes its shape.
-  pub record PutsInto (old new : StoreValue M) (ino i : ℕ) (Allowed : Contents → Type 0) (block : Block) : Type 0 where
-    pub changes : ChangesNode old new ino Allowed (option_map (λ n. with_block n i block (slice_index old.uses ino)))
+  pub record PutsInto (old new : StoreValue M) (ino i : ℕ) (Allowed : Contents → Type 0)
+      (block : Block) : Type 0 where
+    pub changes : ChangesNode old new ino Allowed
+        (option_map (λ n. with_block n i block (slice_index old.uses ino)))
     pub uses : new.uses ≡ old.uses
     pub shapes : KeepsShapes old new
 
@@ -89,13 +95,15 @@ module _ {M : Type 0} where
     pub holes : (j : ℕ) → from ≤ j → j < end → holding new.overlay ino j ≡ Some Zeros
     pub room : new.overlay.room ≡ old.overlay.room
 
-  -- all its blocks from one on are
+  -- all its blocks from one on are holes, and those before it are as they were
   abbrev pub DropsFrom : StoreValue M → StoreValue M → ℕ → ℕ → Type 0
   DropsFrom old new ino from = DropsBetween old new ino from 1036
 
   -- a number is drafted as a node of this kind, or as none
   abbrev pub IsOfKind : StoreValue M → ℕ → Kind → Type 0
-  IsOfKind v ino kind = (d : NodeDraft) → draft_of v.overlay.drafts ino ≡ Some d → ForSome d.shape (λ s. s.kind ≡ kind)
+  IsOfKind v ino kind =
+      (d : NodeDraft) → draft_of v.overlay.drafts ino ≡ Some d
+      → ForSome d.shape (λ s. s.kind ≡ kind)
 
   -- the address is of a data block of a segment that a slot holds, or is to hold
   pub record HasSegmentAt (v : StoreValue M) (addr : ℕ) : Type 0 where
@@ -116,15 +124,20 @@ module _ {M : Type 0} where
     pub uses : KeepsOtherUses old.uses new.uses ino
     pub own : slice_index new.uses ino ≡ used
     pub over : (c : Contents) (s : MachineState) → LiesOver old c s → LiesOver new c s
-    pub shows : (c : Contents) (s : MachineState) → LiesOver old c s → IsChangedDraft (overlaid old) ino
-        → nodes_of new c ≡ with_node (nodes_of old c) ino (option_map (node_used used) (get (nodes_of old c) ino))
-    pub waits : (c : Contents) (s : MachineState) → LiesOver old c s → HasNoChangedDraft (overlaid old) ino
+    pub shows : (c : Contents) (s : MachineState) → LiesOver old c s
+        → IsChangedDraft (overlaid old) ino
+        → nodes_of new c ≡ with_node (nodes_of old c) ino
+        (option_map (node_used used) (get (nodes_of old c) ino))
+    pub waits : (c : Contents) (s : MachineState) → LiesOver old c s
+        → HasNoChangedDraft (overlaid old) ino
         → nodes_of new c ≡ nodes_of old c
 
   -- What preparing leaves: the number is drafted, with room for so many new blocks more; or nothing but the machine changed.
-  abbrev pub Prepares : (M → Option History) → (M → ℕ) → StoreValue M → StoreValue M → ℕ → ℕ → Prepared → Type 0
+  abbrev pub Prepares : (M → Option History) → (M → ℕ) → StoreValue M → StoreValue M → ℕ → ℕ
+      → Prepared → Type 0
   Prepares history faults old new ino count prepared.Ready = ReadsNodes history old new
       × IsSome (draft_of new.overlay.drafts ino) × (new.overlay.room ≡ old.overlay.room + count)
   Prepares history faults old new ino count prepared.DiskFault =
-      (new ≡ on_machine old new.log.machine) × Rose (faults old.log.machine) (faults new.log.machine)
+      (new ≡ on_machine old new.log.machine)
+      × Rose (faults old.log.machine) (faults new.log.machine)
   Prepares history faults old new ino count prepared.Memory = new ≡ on_machine old new.log.machine

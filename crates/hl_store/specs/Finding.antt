@@ -43,7 +43,8 @@ module _ {M : Type 0} where
       → draft_of old.overlay.drafts q ≡ Some d → draft_of new.overlay.drafts q ≡ Some d
 
   -- at this moment, whatever contents the store lies over, P holds of them
-  abbrev pub OverNow : (M → Option History) → StoreValue M → (MachineState → Contents → Type 0) → Type 0
+  abbrev pub OverNow : (M → Option History) → StoreValue M → (MachineState → Contents → Type 0)
+      → Type 0
   OverNow history v P = Now (history v.log.machine) (λ s. (c : Contents) → LiesOver v c s → P s c)
 
   -- the store lies over the contents still, with the nodes that it had
@@ -53,14 +54,16 @@ module _ {M : Type 0} where
 
   -- Nodes may have been read into drafts: nothing is dirty by that, and each draft that there was is there.
   pub record ReadsNodes (history : M → Option History) (old new : StoreValue M) : Type 0 where
-    pub same : new ≡ record old { log = with_machine old.log new.log.machine; overlay = new.overlay }
+    pub same :
+        new ≡ record old { log = with_machine old.log new.log.machine; overlay = new.overlay }
     pub keeps : OverNow history old (KeepsNodes old new)
     pub drafted : KeepsDrafted old new
     pub dirty : dirty_of new ≡ dirty_of old
     pub blocks : new.overlay.blocks ≡ old.overlay.blocks
 
   -- a line holds the segment of this serial, and its block there has these bytes
-  pub record IsInLine (v : StoreValue M) (s : MachineState) (serial position : ℕ) (bytes : List ℕ) : Type 0 where
+  pub record IsInLine (v : StoreValue M) (s : MachineState) (serial position : ℕ)
+      (bytes : List ℕ) : Type 0 where
     pub tseg : ℕ
     pub holds : HoldsSerial (slot_at v.tables.slots tseg) serial
     pub line : ℕ
@@ -88,28 +91,39 @@ module _ {M : Type 0} where
   abbrev pub IsAwayAt : StoreValue M → ℕ → ℕ → Block → Type 0
   IsAwayAt v tseg at Hole = ⊥
   IsAwayAt v tseg at (Here bytes) = ⊥
-  IsAwayAt v tseg at (Away serial position) = HoldsSerial (slot_at v.tables.slots tseg) serial × (position ≡ at)
+  IsAwayAt v tseg at (Away serial position) =
+      HoldsSerial (slot_at v.tables.slots tseg) serial × (position ≡ at)
 
   -- block i of the node that a number has now is such
-  abbrev pub BlockNow : (M → Option History) → StoreValue M → ℕ → ℕ → (MachineState → Block → Type 0) → Type 0
+  abbrev pub BlockNow : (M → Option History) → StoreValue M → ℕ → ℕ
+      → (MachineState → Block → Type 0) → Type 0
   BlockNow history v ino i Is = OverNow history v (λ s c. Is s (block_of_number v c ino i))
 
   -- Block i of a number is what was found: its bytes, a hole's zeros, or that its segment has no line. A fault comes only
   -- where the count rose.
-  abbrev pub FindsBlock : (M → Option History) → (M → ℕ) → StoreValue M → StoreValue M → ℕ → ℕ → List ℕ → Found → Type 0
-  FindsBlock history faults old new ino i out found.Bytes = BlockNow history old ino i (λ s block. HasBytes old s block out)
+  abbrev pub FindsBlock : (M → Option History) → (M → ℕ) → StoreValue M → StoreValue M → ℕ → ℕ
+      → List ℕ → Found → Type 0
+  FindsBlock history faults old new ino i out found.Bytes =
+      BlockNow history old ino i (λ s block. HasBytes old s block out)
   FindsBlock history faults old new ino i out found.Hole =
       (out ≡ zeros 4096) × BlockNow history old ino i (λ s block. block ≡ Hole)
-  FindsBlock history faults old new ino i out (found.Away tseg) = BlockNow history old ino i (λ s block. IsOutIn old tseg block)
-  FindsBlock history faults old new ino i out found.DiskFault = Rose (faults old.log.machine) (faults new.log.machine)
+  FindsBlock history faults old new ino i out (found.Away tseg) =
+      BlockNow history old ino i (λ s block. IsOutIn old tseg block)
+  FindsBlock history faults old new ino i out found.DiskFault =
+      Rose (faults old.log.machine) (faults new.log.machine)
   FindsBlock history faults old new ino i out found.Memory = Unit {0}
 
   -- Where block i of a number is.
-  abbrev pub FindsPlace : (M → Option History) → (M → ℕ) → StoreValue M → StoreValue M → ℕ → ℕ → Placed → Type 0
-  FindsPlace history faults old new ino i placed.Hole = BlockNow history old ino i (λ s block. block ≡ Hole)
-  FindsPlace history faults old new ino i placed.Here = BlockNow history old ino i (λ s block. IsHere block)
-  FindsPlace history faults old new ino i (placed.Away tseg at) = BlockNow history old ino i (λ s block. IsAwayAt old tseg at block)
-  FindsPlace history faults old new ino i placed.DiskFault = Rose (faults old.log.machine) (faults new.log.machine)
+  abbrev pub FindsPlace : (M → Option History) → (M → ℕ) → StoreValue M → StoreValue M → ℕ → ℕ
+      → Placed → Type 0
+  FindsPlace history faults old new ino i placed.Hole =
+      BlockNow history old ino i (λ s block. block ≡ Hole)
+  FindsPlace history faults old new ino i placed.Here =
+      BlockNow history old ino i (λ s block. IsHere block)
+  FindsPlace history faults old new ino i (placed.Away tseg at) =
+      BlockNow history old ino i (λ s block. IsAwayAt old tseg at block)
+  FindsPlace history faults old new ino i placed.DiskFault =
+      Rose (faults old.log.machine) (faults new.log.machine)
   FindsPlace history faults old new ino i placed.Memory = Unit {0}
 
   -- a node without its blocks, with the last use that the store knows
@@ -119,14 +133,18 @@ module _ {M : Type 0} where
     pub used : node.used ≡ used_of n.kind (slice_index v.uses ino)
 
   -- the number has the node
-  pub record HasNodeFound (v : StoreValue M) (ino : ℕ) (node : Node) (s : MachineState) (c : Contents) : Type 0 where
+  pub record HasNodeFound (v : StoreValue M) (ino : ℕ) (node : Node) (s : MachineState)
+      (c : Contents) : Type 0 where
     pub n : FlatNode
     pub has : get (nodes_of v c) ino ≡ Some n
     pub is : IsNodeFound v ino node n
 
   -- The node of a number is what was found.
-  abbrev pub FindsNode : (M → Option History) → (M → ℕ) → StoreValue M → StoreValue M → ℕ → NodeFound → Type 0
+  abbrev pub FindsNode : (M → Option History) → (M → ℕ) → StoreValue M → StoreValue M → ℕ
+      → NodeFound → Type 0
   FindsNode history faults old new ino (node.Node v) = OverNow history old (HasNodeFound old ino v)
-  FindsNode history faults old new ino node.Unused = OverNow history old (λ s c. get (nodes_of old c) ino ≡ None)
-  FindsNode history faults old new ino node.DiskFault = Rose (faults old.log.machine) (faults new.log.machine)
+  FindsNode history faults old new ino node.Unused =
+      OverNow history old (λ s c. get (nodes_of old c) ino ≡ None)
+  FindsNode history faults old new ino node.DiskFault =
+      Rose (faults old.log.machine) (faults new.log.machine)
   FindsNode history faults old new ino node.Memory = Unit {0}

@@ -24,7 +24,8 @@ module _ {M : Type 0} where
   -- The nodes that the store has now may be made last: the serials of the unit have room in 64 bits, the root is a directory,
   -- and no block of a tertiary segment is a block of two nodes.
   pub record MayLast (v : StoreValue M) (c : Contents) : Type 0 where
-    pub serials : Numbered (layout v) v.log.at v.clean (unit_blocks v.overlay) (length (unit_changes v.overlay v.notes))
+    pub serials : Numbered (layout v) v.log.at v.clean (unit_blocks v.overlay)
+        (length (unit_changes v.overlay v.notes))
     pub root : FlatNode
     pub root_is : get (nodes_of v c) 1 ≡ Some root
     pub root_dir : root.kind ≡ Dir
@@ -42,6 +43,7 @@ module _ {M : Type 0} where
     pub rec : contents.rec ≡ c.rec
     pub nodes : contents.nodes ≡ nodes_of v c
 
+  -- the image has the contents of the last unit, or the nodes that the store has now
   abbrev pub HoldsEither : StoreValue M → Contents → Image → Type 0
   HoldsEither v c image = Holds v c image ⊎ HoldsNow v c image
 
@@ -49,28 +51,34 @@ module _ {M : Type 0} where
   -- has now, and no block differs but those that are free for the log
   abbrev pub Flushes : StoreValue M → MachineState → MachineState → Type 0
   Flushes v first s = (c : Contents) → LiesOver v c first → MayLast v c
-      → StopLeaves (layout v) v.log.at (λ image. HoldsEither v c image × Keeps (layout v) v.log.at v.clean first image) s
+      → StopLeaves (layout v) v.log.at
+      (λ image. HoldsEither v c image × Keeps (layout v) v.log.at v.clean first image) s
 
-  -- the store lies over contents with the nodes that it had, behind the same record
+  -- the new store lies over contents with the nodes that the old one had, behind the same record
   pub record HasFlushed (old new : StoreValue M) (c : Contents) (s : MachineState) : Type 0 where
     pub contents : Contents
     pub over : LiesOver new contents s
     pub rec : contents.rec ≡ c.rec
     pub nodes : contents.nodes ≡ nodes_of old c
 
+  -- it does so whatever contents the old one lay over, if its nodes might be made last
   abbrev pub FlushesAll : StoreValue M → StoreValue M → MachineState → MachineState → Type 0
-  FlushesAll old new first s = (c : Contents) → LiesOver old c first → MayLast old c → HasFlushed old new c s
+  FlushesAll old new first s =
+      (c : Contents) → LiesOver old c first → MayLast old c → HasFlushed old new c s
 
   -- there are clean segments enough for the parts of the next unit
   abbrev pub HasUnitRoom : StoreValue M → Type 0
-  HasUnitRoom v = HasClean (layout v) v.log.at.head v.clean (unit_blocks v.overlay) (length (unit_changes v.overlay v.notes))
+  HasUnitRoom v =
+      HasClean (layout v) v.log.at.head v.clean (unit_blocks v.overlay)
+      (length (unit_changes v.overlay v.notes))
 
   -- a unit outside of a pass would find fewer than six clean segments, or too few for its parts
   abbrev pub IsShort : StoreValue M → Type 0
   IsShort v = (length v.clean < 6) ⊎ (¬ HasUnitRoom v)
 
   -- The unit was written, with so many of the clean segments: nothing is drafted or noted, and no call failed.
-  pub record IsFlushed (history : M → Option History) (faults write_faults : M → ℕ) (old new : StoreValue M) (used : ℕ) : Type 0 where
+  pub record IsFlushed (history : M → Option History) (faults write_faults : M → ℕ)
+      (old new : StoreValue M) (used : ℕ) : Type 0 where
     pub within : used ≤ length old.clean
     pub clean : new.clean ≡ drop used old.clean
     pub tidy : IsTidy new
@@ -86,11 +94,14 @@ module _ {M : Type 0} where
 
   -- nothing but the machine changed, and the room for new blocks, which was given up
   abbrev pub KeepsButRoom : StoreValue M → StoreValue M → Type 0
-  KeepsButRoom old new = new ≡ record old { log = new.log; overlay = record old.overlay { room = 0 } }
+  KeepsButRoom old new =
+      new ≡ record old { log = new.log; overlay = record old.overlay { room = 0 } }
 
   -- How the writing of a unit ends.
-  abbrev pub WriteEnds : (M → Option History) → (M → ℕ) → (M → ℕ) → StoreValue M → StoreValue M → UnitAnswer → Type 0
-  WriteEnds history faults write_faults old new (answer.Written used) = HasUnitRoom old × IsFlushed history faults write_faults old new used
+  abbrev pub WriteEnds : (M → Option History) → (M → ℕ) → (M → ℕ) → StoreValue M → StoreValue M
+      → UnitAnswer → Type 0
+  WriteEnds history faults write_faults old new (answer.Written used) =
+      HasUnitRoom old × IsFlushed history faults write_faults old new used
   WriteEnds history faults write_faults old new answer.LogFull = (¬ HasUnitRoom old) × (new ≡ old)
   WriteEnds history faults write_faults old new answer.DiskFault = HasUnitRoom old
       × Failed faults write_faults old.log new.log × KeepsButRoom old new
@@ -98,11 +109,13 @@ module _ {M : Type 0} where
 
   -- How a flush ends. Where nothing is dirty it does nothing. The log is full exactly where fewer than six segments are clean
   -- or too few for the unit, and nothing was written then.
-  abbrev pub FlushEnds : (M → Option History) → (M → ℕ) → (M → ℕ) → StoreValue M → StoreValue M → UnitAnswer → Type 0
+  abbrev pub FlushEnds : (M → Option History) → (M → ℕ) → (M → ℕ) → StoreValue M → StoreValue M
+      → UnitAnswer → Type 0
   FlushEnds history faults write_faults old new (answer.Written used) =
       (IsTidy old × (new ≡ old) × (used ≡ 0))
       ⊎ ((¬ IsTidy old) × (¬ IsShort old) × IsFlushed history faults write_faults old new used)
-  FlushEnds history faults write_faults old new answer.LogFull = (¬ IsTidy old) × IsShort old × (new ≡ old)
+  FlushEnds history faults write_faults old new answer.LogFull =
+      (¬ IsTidy old) × IsShort old × (new ≡ old)
   FlushEnds history faults write_faults old new answer.DiskFault = (¬ IsTidy old) × (¬ IsShort old)
       × Failed faults write_faults old.log new.log × KeepsButRoom old new
   FlushEnds history faults write_faults old new answer.Memory = (¬ IsTidy old) × (new ≡ old)

@@ -12,7 +12,8 @@ use Rattle.hl_store.specs.declared.footing.Footing.{Footing}
 
 -- what of a draft its next change may let go
 abbrev pub footing_of : NodeDraft → Footing
-footing_of d = record { changed = d.changed; own = d.own; single = d.single; far = has_far d.pointers }
+footing_of d =
+    record { changed = d.changed; own = d.own; single = d.single; far = has_far d.pointers }
 
 -- a charge that has room to grow
 abbrev pub HasChargeRoom : Tally → Type 0
@@ -25,7 +26,7 @@ CountsBlock k i was before held is old new = (g : Layout) (h : Holding) (d e : N
     → footing_of d ≡ was → where_is d.pointers i ≡ before → footing_of e ≡ is
     → HasChargeRoom old → new ≡ block_counted g i h d e old
 
--- A number is of another shape, or of none.
+-- A number is of another shape, or of none; it is counted so, where the charge has room.
 abbrev pub CountsShape : ℕ → ℕ → Footing → Option Shape → Option Shape → Tally → Tally → Type 0
 CountsShape k ino was before shape old new = (g : Layout) (d : NodeDraft)
     → g.k ≡ k → footing_of d ≡ was → d.shape ≡ before

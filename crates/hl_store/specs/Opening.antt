@@ -30,13 +30,16 @@ pub record AreParts {M : Type 0} (log : LogValue M) (parts : StoreParts) : Type 
 -- the numbers from 1 up to one that the tables have an inode for are in use
 pub record AreInUseTo (end : ℕ) (t : TableValues) (flags : List Bool) : Type 0 where
   pub count : length flags ≡ length t.inodes
-  pub are : (ino : ℕ) → 1 ≤ ino → ino < end → slice_index_or flags ino true ≡ not (slice_index t.inodes ino == 4294967295)
+  pub are : (ino : ℕ) → 1 ≤ ino → ino < end
+      → slice_index_or flags ino true ≡ not (slice_index t.inodes ino == 4294967295)
 
+-- the numbers from 1 on that the tables have an inode for are in use
 abbrev pub AreInUse : TableValues → List Bool → Type 0
 AreInUse t flags = AreInUseTo (length t.inodes) t flags
 
 -- the store of these parts, with an overlay and numbers in use
-abbrev pub store_of : {M : Type 0} → LogValue M → StoreParts → OverlayValue → List Bool → StoreValue M
+abbrev pub store_of : {M : Type 0} → LogValue M → StoreParts → OverlayValue → List Bool
+    → StoreValue M
 store_of log parts overlay in_use = record {
   log = log;
   tables = parts.tables;
@@ -50,14 +53,16 @@ store_of log parts overlay in_use = record {
 }
 
 -- a store of these parts, of which nothing is changed
-pub record IsOpened {M : Type 0} (log : LogValue M) (parts : StoreParts) (v : StoreValue M) : Type 0 where
+pub record IsOpened {M : Type 0} (log : LogValue M) (parts : StoreParts)
+    (v : StoreValue M) : Type 0 where
   pub same : v ≡ store_of log parts v.overlay v.tally.in_use
   pub empty : IsEmpty log.geometry.inodes v.overlay
   pub in_use : AreInUse parts.tables v.tally.in_use
 
 -- What a mount found tells of these contents: the log is at rest over them, and they are sound and listed; the tables are
 -- theirs, and so are the charge, the live blocks of each segment and the serial of the next tertiary segment.
-pub record AreOfContents {M : Type 0} (log : LogValue M) (parts : StoreParts) (c : Contents) (s : MachineState) : Type 0 where
+pub record AreOfContents {M : Type 0} (log : LogValue M) (parts : StoreParts) (c : Contents)
+    (s : MachineState) : Type 0 where
   pub rests : Rests log.geometry log.at parts.clean.items c s
   pub sound : IsSound log.geometry s.content c
   pub listed : AreListed log.geometry s.content c (head_of c.rec c.parts)
@@ -66,6 +71,7 @@ pub record AreOfContents {M : Type 0} (log : LogValue M) (parts : StoreParts) (c
   pub serial : parts.tseg_serial ≡ next_tertiary c
   pub charge : parts.charge ≡ flat_charge c.nodes
   pub addresses : List ℕ
-  pub each : (address : ℕ) → Contains addresses address ↔ IsLive log.geometry s.content c.rec c.tables address
+  pub each : (address : ℕ)
+      → Contains addresses address ↔ IsLive log.geometry s.content c.rec c.tables address
   pub once : Once addresses
   pub live : parts.live.items ≡ fold (added log.geometry.k) (replicate log.geometry.log 0) addresses

@@ -24,8 +24,9 @@ pub record IsInSlot (g : Layout) (addr tseg block : ℕ) : Type 0 where
   pub place : IsAt g addr (Tertiary volume slot block)
   pub number : tseg ≡ slot_number g.volumes volume slot
 
--- these bytes stand at the address: in the log, or in the line that holds its segment
-pub record StandsInLine (g : Layout) (lines : Lines) (s : MachineState) (addr : ℕ) (bytes : List ℕ) : Type 0 where
+-- these bytes stand in the line that holds the segment in which the address lies
+pub record StandsInLine (g : Layout) (lines : Lines) (s : MachineState) (addr : ℕ)
+    (bytes : List ℕ) : Type 0 where
   pub tseg : ℕ
   pub block : ℕ
   pub lies : IsInSlot g addr tseg block
@@ -33,8 +34,10 @@ pub record StandsInLine (g : Layout) (lines : Lines) (s : MachineState) (addr : 
   pub held : line_with lines.states tseg ≡ Some line
   pub bytes_are : s.content (line_start g line + block) ≡ bytes
 
+-- these bytes stand at the address: in the log, or in the line that holds its segment
 abbrev pub StandsAt : Layout → Lines → MachineState → ℕ → List ℕ → Type 0
-StandsAt g lines s addr bytes = (InLog g addr × (s.content addr ≡ bytes)) ⊎ StandsInLine g lines s addr bytes
+StandsAt g lines s addr bytes =
+    (InLog g addr × (s.content addr ≡ bytes)) ⊎ StandsInLine g lines s addr bytes
 
 module _ {M : Type 0} where
   -- Where an address lies.
@@ -52,9 +55,12 @@ module _ {M : Type 0} where
     pub none : line_with lines.states tseg ≡ None
 
   -- What was found at an address.
-  abbrev pub FindsAt : (M → Option History) → (M → ℕ) → LogValue M → LogValue M → Lines → ℕ → List ℕ → Found → Type 0
-  FindsAt history faults old new lines addr out found.Bytes = Now (history old.machine) (λ s. StandsAt old.geometry lines s addr out)
+  abbrev pub FindsAt : (M → Option History) → (M → ℕ) → LogValue M → LogValue M → Lines → ℕ
+      → List ℕ → Found → Type 0
+  FindsAt history faults old new lines addr out found.Bytes =
+      Now (history old.machine) (λ s. StandsAt old.geometry lines s addr out)
   FindsAt history faults old new lines addr out found.Hole = ⊥
   FindsAt history faults old new lines addr out (found.Away tseg) = IsOutAt old lines addr tseg
-  FindsAt history faults old new lines addr out found.DiskFault = Rose (faults old.machine) (faults new.machine)
+  FindsAt history faults old new lines addr out found.DiskFault =
+      Rose (faults old.machine) (faults new.machine)
   FindsAt history faults old new lines addr out found.Memory = Unit {0}

@@ -27,19 +27,23 @@ module _ {M : Type 0} where
 
   -- the address is of the log, and these bytes stand there
   abbrev pub GivesLogBlock : (M → Option History) → LogValue M → ℕ → List ℕ → Type 0
-  GivesLogBlock history log addr out = InLog log.geometry addr × Now (history log.machine) (λ s. s.content addr ≡ out)
+  GivesLogBlock history log addr out =
+      InLog log.geometry addr × Now (history log.machine) (λ s. s.content addr ≡ out)
 
   -- the inode of the number stands at the address
   abbrev pub GivesInode : (M → Option History) → LogValue M → ℕ → ℕ → Inode → Type 0
-  GivesInode history log ino own inode = Now (history log.machine) (λ s. IsInodeAt log.geometry s.content ino own inode)
+  GivesInode history log ino own inode =
+      Now (history log.machine) (λ s. IsInodeAt log.geometry s.content ino own inode)
 
   -- the draft is of whatever contents reads give, where their inode map is this one
   abbrev pub GivesDraft : (M → Option History) → LogValue M → TableValues → ℕ → NodeDraft → Type 0
-  GivesDraft history log tables ino d = Now (history log.machine) (λ s. (c : Contents) → HasContents log.geometry s.content c
+  GivesDraft history log tables ino d =
+      Now (history log.machine) (λ s. (c : Contents) → HasContents log.geometry s.content c
       → tables.inodes ≡ c.tables.inodes → IsDraftOf log.geometry s.content c d)
 
   -- the number is drafted in a table of the site's numbers, with room for so many new blocks more
-  pub record Seats (history : M → Option History) (old new : StoreValue M) (ino count : ℕ) : Type 0 where
+  pub record Seats (history : M → Option History) (old new : StoreValue M)
+      (ino count : ℕ) : Type 0 where
     pub reads : ReadsNodes history old new
     pub drafted : IsSome (draft_of new.overlay.drafts ino)
     pub room : new.overlay.room ≡ old.overlay.room + count
@@ -49,7 +53,8 @@ module _ {M : Type 0} where
   pub record Releases (old new : StoreValue M) : Type 0 where
     pub same : new ≡ record old { overlay = new.overlay }
     pub over : (c : Contents) (s : MachineState) → LiesOver old c s → LiesOver new c s
-    pub nodes : (c : Contents) (s : MachineState) → LiesOver old c s → nodes_of new c ≡ nodes_of old c
+    pub nodes : (c : Contents) (s : MachineState) → LiesOver old c s
+        → nodes_of new c ≡ nodes_of old c
     pub trims : Trims 64 old.overlay.drafts new.overlay.drafts
     pub dirty : dirty_of new ≡ dirty_of old
     pub blocks : new.overlay.blocks ≡ old.overlay.blocks

@@ -27,6 +27,7 @@ pub record StoreValue (M : Type 0) : Type 0 where
   pub tseg_serial : ℕ
 
 module _ {M : Type 0} where
+  -- the site
   abbrev pub layout : StoreValue M → Layout
   layout v = v.log.geometry
 

@@ -28,13 +28,16 @@ abbrev pub HasInodeOf : TableValues → BlockRecord × Block → Type 0
 HasInodeOf t b = HasInode t b.0
 
 -- a unit is laid over the tables, and its blocks are counted
-pub record IsLaid (k : ℕ) (plan : List ℕ) (made : MadeUnitValue) (old new : TableValues) (before now : Tally) : Type 0 where
-  pub tables : new ≡ fold changed (blocks_placed old (records_of made.blocks) plan) (freed_of made.drafts.items)
+pub record IsLaid (k : ℕ) (plan : List ℕ) (made : MadeUnitValue) (old new : TableValues)
+    (before now : Tally) : Type 0 where
+  pub tables : new ≡ fold changed (blocks_placed old (records_of made.blocks) plan)
+      (freed_of made.drafts.items)
   pub shape : SameShape old new
   pub tally : now ≡ record before { live = fold (added k) before.live plan }
 
--- where it was written, and else nothing changes
-abbrev pub Lays : ℕ → List ℕ → MadeUnitValue → TableValues → TableValues → Tally → Tally → UnitAnswer → Type 0
+-- a unit that was written is laid over the tables and counted, and else nothing changes
+abbrev pub Lays : ℕ → List ℕ → MadeUnitValue → TableValues → TableValues → Tally → Tally
+    → UnitAnswer → Type 0
 Lays k plan made old new before now (answer.Written used) = IsLaid k plan made old new before now
 Lays k plan made old new before now answer.LogFull = (new ≡ old) × (now ≡ before)
 Lays k plan made old new before now answer.DiskFault = (new ≡ old) × (now ≡ before)
@@ -43,9 +46,10 @@ Lays k plan made old new before now answer.Memory = (new ≡ old) × (now ≡ be
 -- the changes of the next unit of a store, and the addresses of its blocks
 pub record IsPlannedUnit {M : Type 0} (v : StoreValue M) (p : PlannedUnit) : Type 0 where
   pub changes : p.changes.items ≡ unit_changes v.overlay v.notes
-  pub plan : IsPlan (layout v) v.log.at.head v.clean (unit_blocks v.overlay) (length (unit_changes v.overlay v.notes)) p.plan.items
+  pub plan : IsPlan (layout v) v.log.at.head v.clean (unit_blocks v.overlay)
+      (length (unit_changes v.overlay v.notes)) p.plan.items
 
--- or there are too few clean segments for it
+-- what is planned is the next unit; none is where there are too few clean segments for it
 abbrev pub IsPlanned : {M : Type 0} → StoreValue M → Option PlannedUnit → Type 0
 IsPlanned v None = ¬ HasUnitRoom v
 IsPlanned v (Some p) = IsPlannedUnit v p

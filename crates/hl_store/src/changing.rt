@@ -33,7 +33,8 @@ fn blocks_of(size: u64) -> u32
 }
 
 impl<M: Machine> Store<M> {
-    /// Puts bytes into block `i` of a node that is prepared, for which room was made and which its size reaches.
+    /// Puts 4096 bytes into block `i` of a node that is prepared, for which room was made and which its size reaches. It
+    /// takes the room of one new block.
     pub fn put(&mut self, ino: u32, i: u32, bytes: &[u8])
         requires number { IsNumber self.old ino }
         requires block { HasBlock self.old.overlay.drafts ino i }
@@ -55,8 +56,10 @@ impl<M: Machine> Store<M> {
         requires number { IsNumber self.old ino }
         requires block { HasBlock self.old.overlay.drafts ino i }
         requires away { MayGoAway self.old ino addr }
-        ensures puts { (serial position : ℕ) → LiesAway (layout self.old) self.old.tables.slots addr serial position
-            → PutsInto self.old self.new ino i (StaysIn self.old serial) (blocks.Away serial position) }
+        ensures puts { (serial position : ℕ)
+            → LiesAway (layout self.old) self.old.tables.slots addr serial position
+            → PutsInto self.old self.new ino i (StaysIn self.old serial)
+            (blocks.Away serial position) }
         ensures room { self.new.overlay.room ≡ self.old.overlay.room }
     {
         let k = self.log.geometry().k;
@@ -86,7 +89,7 @@ impl<M: Machine> Store<M> {
         self.reshape(ino, Some(shape));
     }
 
-    /// Makes the number of a node that is prepared free.
+    /// Makes the number of a node that is prepared free, and its blocks are gone.
     pub fn free(&mut self, ino: u32)
         requires number { IsNumber self.old ino }
         requires prepared { IsSome (draft_of self.old.overlay.drafts ino) }
@@ -138,7 +141,8 @@ impl<M: Machine> Store<M> {
         requires block { HasBlock self.old.overlay.drafts ino i }
         ensures puts { PutsInto self.old self.new ino i Always blocks.Hole }
         ensures hole { holding self.new.overlay ino i ≡ Some Zeros }
-        ensures others { (j : ℕ) → j ≢ i → holding self.new.overlay ino j ≡ holding self.old.overlay ino j }
+        ensures others { (j : ℕ) → j ≢ i
+            → holding self.new.overlay ino j ≡ holding self.old.overlay ino j }
         ensures room { self.new.overlay.room ≡ self.old.overlay.room }
     {
         let k = self.log.geometry().k;
@@ -179,7 +183,8 @@ impl<M: Machine> Store<M> {
     fn reshape(&mut self, ino: u32, shape: Option<Shape>)
         requires number { IsNumber self.old ino }
         requires can { CanShape self.old.overlay.drafts ino shape }
-        requires kind { (d : Draft) → draft_of self.old.overlay.drafts ino ≡ Some d → KeepsKind d shape }
+        requires kind { (d : Draft)
+            → draft_of self.old.overlay.drafts ino ≡ Some d → KeepsKind d shape }
         ensures shape { Reshapes self.old self.new ino (slice_index self.old.uses ino) shape }
         ensures uses { self.new.uses ≡ self.old.uses }
     {

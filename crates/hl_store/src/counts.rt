@@ -13,7 +13,7 @@ use crate::live::{add_live, is_logged, remove_live};
 use hl_overlay::{DIRECT, Pointer, Shape};
 use std::marker::Model;
 
-/// The numbers in use, the charge in blocks, and the live blocks of each log segment.
+/// The numbers in use, the charge in blocks, and the number of live blocks of each log segment.
 #[derive(Drop)]
 pub(crate) struct Counts {
     in_use: InUse,
@@ -61,13 +61,14 @@ impl Counts {
         self.in_use.lowest_free()
     }
 
+    /// What the nodes are charged, in blocks.
     pub(crate) fn charge(&self) -> u32
         ensures { result ≡ self.now.charge }
     {
         self.charge
     }
 
-    /// The live blocks of each log segment, from 1 on.
+    /// The number of live blocks of each log segment, from 1 on.
     pub(crate) fn live(&self) -> &[u32]
         ensures { result.now ≡ self.now.live }
     {
@@ -168,7 +169,8 @@ impl Counts {
     /// What a block is charged that was where the pointer tells.
     fn charge_at(&self, k: u32, before: Pointer) -> u32
         requires { 0 < k }
-        ensures value { (g : Layout) → g.k ≡ k → g.log ≡ length self.now.live → result ≡ charge_at g before }
+        ensures value { (g : Layout) → g.k ≡ k → g.log ≡ length self.now.live
+            → result ≡ charge_at g before }
         ensures most { result ≤ 1 }
     {
         match before {

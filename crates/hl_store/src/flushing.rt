@@ -139,7 +139,8 @@ impl<M: Machine> Store<M> {
 
     /// The changes of the tables that the next unit is to have.
     fn changes(&self, alloc: Global) -> Result<Vec<TableRecord>, AllocError>
-        ensures { IfOk result (λ changes. changes.items ≡ unit_changes self.now.overlay self.now.notes) }
+        ensures { IfOk result (λ changes.
+            changes.items ≡ unit_changes self.now.overlay self.now.notes) }
     {
         let mut changes = Vec::new(alloc);
         self.overlay.push_freed(&mut changes)?;
@@ -214,7 +215,8 @@ impl<M: Machine> Store<M> {
     /// that the store has now, and no block differs but those that are free for the log. After `Written` every image has the
     /// nodes that the store has, and nothing is drafted. `LogFull` comes exactly where anything is dirty and fewer than six
     /// segments are clean or too few for the unit; nothing is written then. After `DiskFault` the log is not to be written
-    /// again, and the room for new blocks is given up. Memory is taken before the first device call.
+    /// again, and the room for new blocks is given up. Memory is taken before the first device call, and where it is wanting
+    /// nothing changes.
     pub fn flush(&mut self, alloc: Global) -> UnitAnswer
         ensures crash { Runs (M.history self.old.log.machine) (M.history self.new.log.machine)
             (Flushes self.old) }

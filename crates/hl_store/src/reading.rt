@@ -16,7 +16,7 @@ use hl_media::Machine;
 use hl_overlay::{BLOCKS_MAX, BlockNow, used_of};
 use std::alloc::Global;
 
-/// Where what lies at an address is.
+/// Where what lies at an address is. One that is neither of the log nor of a tertiary segment counts as want of memory.
 fn where_at<M: Machine>(log: &Log<M>, addr: u32) -> Placed
     ensures { IsWhereFound log.now addr result }
 {
@@ -34,7 +34,8 @@ fn where_at<M: Machine>(log: &Log<M>, addr: u32) -> Placed
     }
 }
 
-/// Reads what lies at an address, in the log or in the line that holds its tertiary segment.
+/// Reads what lies at an address, in the log or in the line that holds its tertiary segment; `Away` comes where no line
+/// holds that. An address elsewhere counts as want of memory.
 fn read_at<M: Machine>(log: &mut Log<M>, lines: &LineTable, addr: u32, out: &mut [u8]) -> Found
     requires size { length out.old ≡ 4096 }
     requires lines { length lines.now.states ≡ log.old.geometry.lines }
@@ -85,8 +86,9 @@ impl<M: Machine> Store<M> {
         }
     }
 
-    /// Reads block `i` of a node into `out`; one past the end is a hole. `Away` comes exactly where the block is away and
-    /// its segment has no line. The inode and its pointer block are read once and kept.
+    /// Reads block `i` of a node into `out`, of 4096 bytes; one past the end is a hole, and so is any of a number that isn't
+    /// in use. `Away` comes exactly where the block is away and its segment has no line. The inode and its pointer block are
+    /// read once and kept.
     pub fn block(&mut self, alloc: Global, ino: u32, i: u32, out: &mut [u8]) -> Found
         requires number { IsNumber self.old ino }
         requires size { length out.old ≡ 4096 }
@@ -122,7 +124,8 @@ impl<M: Machine> Store<M> {
         }
     }
 
-    /// Where block `i` of a node is; one past the end is a hole.
+    /// Where block `i` of a node is; one past the end is a hole, and so is any of a number that isn't in use. It doesn't read
+    /// the block.
     pub fn place(&mut self, alloc: Global, ino: u32, i: u32) -> Placed
         requires number { IsNumber self.old ino }
         ensures found { FindsPlace M.history M.faults self.old self.new ino i result }

@@ -8,6 +8,7 @@ ghost use Rattle.hl_overlay.specs.Drafting.{IsDraft};
 ghost use Rattle.hl_overlay.specs.DraftTables.{draft_of};
 ghost use Rattle.hl_store.specs.Values.{StoreValue, layout};
 ghost use Rattle.hl_store.specs.Shapes.{IsNumber};
+ghost use Rattle.hl_store.specs.Seats.{GivesDraft, GivesInode, GivesLogBlock, IsCaused};
 
 use crate::answers::{Prepared, Trouble};
 use crate::store::Store;
@@ -22,8 +23,6 @@ use std::alloc::Global;
 
 /// So many drafts that aren't changed are kept to be read again.
 const KEPT: usize = 64;
-
-ghost use Rattle.hl_store.specs.Seats.{GivesDraft, GivesInode, GivesLogBlock, IsCaused};
 
 /// Reads a block of the log. An address elsewhere counts as want of memory.
 pub(crate) fn read_block<M: Machine>(
@@ -102,7 +101,8 @@ impl<M: Machine> Store<M> {
     ghost use Rattle.hl_store.specs.Changes.{Prepares};
     ghost use Rattle.hl_store.specs.Seats.{Releases, Seats};
 
-    /// Brings the node of a number into the overlay, in use or not, with room for so many new blocks more.
+    /// Brings the node of a number into the overlay, in use or not, with room for so many new blocks more. Where it fails
+    /// nothing but the machine changed.
     pub(crate) fn seat(&mut self, alloc: Global, ino: u32, count: u32) -> Result<(), Trouble>
         requires number { IsNumber self.old ino }
         ensures ok { OnOk result (Seats M.history self.old self.new ino count) }
@@ -123,7 +123,8 @@ impl<M: Machine> Store<M> {
 
     /// Brings the node of a number, in use or not, to where it can be changed, and makes room for `count` new blocks besides
     /// those that there was room for, of which it may have those from `from` on. Nothing is dirty by that. After `Ready` the
-    /// changes of what was prepared take no memory until `release` or `flush`.
+    /// changes of what was prepared take no memory until `release` or `flush`. Where it fails nothing but the machine
+    /// changed.
     pub fn prepare(&mut self, alloc: Global, ino: u32, from: u32, count: u32) -> Prepared
         requires number { IsNumber self.old ino }
         requires blocks { from + count ≤ 1036 }

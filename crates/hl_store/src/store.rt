@@ -39,16 +39,21 @@ pub struct StoreParts {
 #[derive(Drop)]
 pub struct Store<M: Machine> {
     pub(crate) log: Log<M>,
+    /// The tables of the last unit, with the changes of `notes` made in them.
     pub(crate) tables: Tables,
-    /// Changes of slots and volumes that the next unit is to have. They are made in `tables` already.
+    /// Changes of slots and volumes that the next unit is to have.
     pub(crate) notes: Vec<TableRecord>,
+    /// The drafts of nodes and their new blocks.
     pub(crate) overlay: Overlay,
+    /// The last use of each inode number.
     pub(crate) uses: Vec<u64>,
     pub(crate) counts: Counts,
+    /// What each line of the disk holds.
     pub(crate) lines: LineTable,
     /// The segments that were clean after the last checkpoint, of which the first `taken` aren't any more.
     pub(crate) clean: Vec<u32>,
     pub(crate) taken: usize,
+    /// The serial that the next tertiary segment gets.
     pub(crate) tseg_serial: u64,
 }
 
@@ -209,7 +214,8 @@ impl<M: Machine> Store<M> {
         ensures same { self.new ≡ on_machine self.old self.new.log.machine }
         ensures blocks { M.blocks self.new.log.machine ≡ M.blocks self.old.log.machine }
         ensures faults { M.faults self.new.log.machine ≡ M.faults self.old.log.machine }
-        ensures write_faults { M.write_faults self.new.log.machine ≡ M.write_faults self.old.log.machine }
+        ensures write_faults { M.write_faults self.new.log.machine
+            ≡ M.write_faults self.old.log.machine }
         ensures say_faults { HasCause (M.say_faults self.old.log.machine)
             (M.say_faults self.new.log.machine) result }
     {
@@ -239,7 +245,7 @@ impl<M: Machine> Store<M> {
     }
 }
 
-/// The clean segments behind the first, which were taken.
+/// The clean segments behind the first so many, which are taken.
 pub(crate) fn not_taken(clean: &Vec<u32>, taken: usize) -> &[u32]
     requires { taken ≤ length clean.now.items }
     ensures { result.now ≡ drop taken clean.now.items }
