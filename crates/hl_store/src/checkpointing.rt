@@ -165,7 +165,8 @@ impl<M: Machine> Store<M> {
     /// counts as want of memory.
     fn next_record(&self, alloc: Global) -> Result<Record, AllocError>
         ensures of { IfOk result (IsOf (layout self.now)) }
-        ensures given { IfOk result (λ rec. given_by self.now.log.rec.number rec ≡ given_of self.now) }
+        ensures given { IfOk result
+            (λ rec. given_by self.now.log.rec.number rec ≡ given_of self.now) }
     {
         if self.tseg_serial == 0 {
             return Err(AllocError);
@@ -224,6 +225,7 @@ impl<M: Machine> Store<M> {
         set_marks(&mut self.tables, marks.as_slice());
         let clean = &self.clean.as_slice()[self.taken..];
         let answer = write_tables(&mut self.log, alloc, &self.tables, &rec, clean);
+        // Without the new record the tables are those of the old one.
         let UnitAnswer::Written { .. } = answer else {
             set_marks(&mut self.tables, before.as_slice());
             return answer;

@@ -3,7 +3,8 @@
 //!
 //! `Store::node`, `block` and `place` find what the nodes have now. `prepare` brings a node to where it can be changed;
 //! from then on `put`, `set_away`, `set_node` and `free` take no memory and can't fail. `flush` makes the nodes those of
-//! every image that a stop may leave, and `release` lets go what is only kept to be read again.
+//! every image that a stop may leave, and `release` lets go what is only kept to be read again. `checkpoint` writes the tables
+//! and the next record, and finds the clean segments anew.
 #![tactic(auto)]
 
 mod answers;
