@@ -1,5 +1,5 @@
 -- A unit of a store.
-use Rattle.std.specs.Prelude.{◌≡◌, ℕ, ◌<◌, List, length, map, Option, Some, None}
+use Rattle.std.specs.Prelude.{◌≡◌, ℕ, List, length, map, Option, Some, None}
 use Rattle.std.specs.List.{fold}
 use Rattle.hl_bytes.specs.declared.block.Block.{Block}
 use Rattle.hl_bytes.specs.declared.records.BlockRecord.{BlockRecord}

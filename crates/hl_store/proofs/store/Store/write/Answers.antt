@@ -1,4 +1,4 @@
-use Rattle.std.proofs.Common.{◌≡◌, ℕ, ◌+◌, ◌<◌, ◌≤◌, ◌^◌, List, drop, length, length-drop, arith, Option, Some, refl, sym, ◌∙◌, ap, subst}
+use Rattle.std.proofs.Common.{ℕ, ◌+◌, ◌<◌, ◌≤◌, ◌^◌, List, drop, length, length-drop, arith, Some, refl, sym, ◌∙◌, ap, subst}
 use Rattle.hl_media.specs.Moments.{Runs}
 use Rattle.hl_overlay.specs.Overlays.{IsWholeOverlay, unit_blocks}
 use Rattle.hl_store.specs.Values.{StoreValue}
