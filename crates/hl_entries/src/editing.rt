@@ -49,7 +49,8 @@ fn put_number(bytes: &mut Vec<u8>, at: usize, ino: u32)
 fn put_fields(bytes: &mut [u8], at: usize, name: &[u8], ino: u32)
     requires within { at + (5 + length name.now) ≤ length bytes.old }
     requires short { length name.now ≤ 255 }
-    ensures { bytes.new ≡ written bytes.old at (entry_bytes (record { ino = ino; name = name.now })) }
+    ensures { bytes.new
+        ≡ written bytes.old at (entry_bytes (record { ino = ino; name = name.now })) }
 {
     put_u32(bytes, at, ino);
     put_bytes(bytes, at + 4, &[name.len() as u8]);

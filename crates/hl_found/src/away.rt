@@ -34,7 +34,8 @@ fn has_away_from(node: &FoundNode, from: usize, serial: u64, position: u32) -> b
 
 /// Whether the node has a block from this one on that is away where a block is.
 fn has_same_from(node: &FoundNode, from: usize, block: &FoundBlock) -> bool
-    ensures { IsTrue result ↔ HasSameFrom from (block_found block.now) (node_found node.now).content }
+    ensures { IsTrue result
+        ↔ HasSameFrom from (block_found block.now) (node_found node.now).content }
 {
     match block {
         FoundBlock::Away { serial, position } => has_away_from(node, from, *serial, *position),
@@ -57,7 +58,8 @@ fn has_each_once(node: &FoundNode) -> bool
 
 /// Whether two nodes have no away block in common. It compares each pair.
 fn share_none(one: &FoundNode, other: &FoundNode) -> bool
-    ensures { IsTrue result ↔ ShareNone (node_found one.now).content (node_found other.now).content }
+    ensures { IsTrue result
+        ↔ ShareNone (node_found one.now).content (node_found other.now).content }
 {
     let blocks = one.blocks.as_slice();
     'ones: for i in 0..blocks.len() {
@@ -71,7 +73,8 @@ fn share_none(one: &FoundNode, other: &FoundNode) -> bool
 /// Whether a node has no away block in common with the node of a number.
 fn shares_none_with(nodes: &[Option<FoundNode>], n: usize, node: &FoundNode) -> bool
     requires { n < length nodes.now }
-    ensures { IsTrue result ↔ SharesNoneWith (nodes_found nodes.now) n (node_found node.now).content }
+    ensures { IsTrue result
+        ↔ SharesNoneWith (nodes_found nodes.now) n (node_found node.now).content }
 {
     match &nodes[n] {
         Some(other) => share_none(node, other),

@@ -44,7 +44,8 @@ fn count_here(blocks: &[FoundBlock]) -> usize
 
 /// Whether a block from block 12 on isn't a hole.
 fn has_pointers(blocks: &[FoundBlock]) -> bool
-    ensures { result ≡ list_any (λ block. not (is_hole block)) (drop 12 (map block_found blocks.now)) }
+    ensures { result
+        ≡ list_any (λ block. not (is_hole block)) (drop 12 (map block_found blocks.now)) }
 {
     'each: for i in 12..blocks.len() {
         if !is_hole(&blocks[i]) {

@@ -181,7 +181,8 @@ pub fn live_blocks(
 
 /// Whether two blocks of which one is listed for the other's address are one.
 fn is_apart(one: &LiveAt, other: &LiveAt) -> bool
-    ensures { IsTrue result ↔ (one.now.address ≡ other.now.address → one.now.block ≡ other.now.block) }
+    ensures { IsTrue result
+        ↔ (one.now.address ≡ other.now.address → one.now.block ≡ other.now.block) }
 {
     one.address != other.address || one.block == other.block
 }

@@ -34,8 +34,10 @@ fn is_in_use(uses: &[Option<FoundUse>], number: u32) -> bool
 /// The place of a number among those that are reached.
 pub(crate) fn place_of(reached: &[Reached], number: usize) -> Option<usize>
     ensures { MatchOption result
-        ((i : ℕ) (d : Reached) → i < length reached.now → (slice_index_or reached.now i d).number ≡ number → ⊥)
-        (λ i. (i < length reached.now) × ((d : Reached) → (slice_index_or reached.now i d).number ≡ number)) }
+        ((i : ℕ) (d : Reached) → i < length reached.now
+        → (slice_index_or reached.now i d).number ≡ number → ⊥)
+        (λ i. (i < length reached.now)
+        × ((d : Reached) → (slice_index_or reached.now i d).number ≡ number)) }
 {
     'each: for i in 0..reached.len() {
         if reached[i].number as usize == number {
@@ -267,7 +269,8 @@ pub fn places_of(
     uses: &[Option<FoundUse>],
 ) -> Result<Option<Vec<Reached>>, AllocError>
     requires names { HaveNames uses.now }
-    ensures { IfOk result (λ r. OfUses uses.now (λ numbered. HasRootEntries numbered → FindsPlaces numbered r)) }
+    ensures { IfOk result (λ r. OfUses uses.now
+        (λ numbered. HasRootEntries numbered → FindsPlaces numbered r)) }
 {
     let mut reached = Vec::new(alloc);
     reached.push(Reached {

@@ -172,7 +172,8 @@ fn lives_are_in_place(
     requires places { HavePlaces found.now }
     requires head { head ≡ head_of found.now.rec (parts_found found.now.chain.items) }
     ensures { let parts = parts_found found.now.chain.items in
-        IsTrue result ↔ All (IsInPlace geometry.now found.now.rec parts found.now.tables) lives.now }
+        IsTrue result
+        ↔ All (IsInPlace geometry.now found.now.rec parts found.now.tables) lives.now }
 {
     'each: for i in 0..lives.len() {
         if !is_in_place(geometry, found, head, lives[i].address) {

@@ -54,7 +54,8 @@ fn push_staged(
     requires image { 4096 * lines_end geometry.now ≤ length image.now }
     requires line { (line serial : ℕ) → slot ≡ Staged line serial → line < geometry.now.lines }
     ensures { OnOk result ((base : Shelf) → shelf_over base staged.new.items
-        ≡ shelf_over (with_staged geometry.now (block_of image.now) base (slot ∷ [])) staged.old.items) }
+        ≡ shelf_over (with_staged geometry.now (block_of image.now) base (slot ∷ []))
+        staged.old.items) }
 {
     match slot {
         Slot::Staged { line, serial } => {
@@ -230,7 +231,8 @@ fn has_segment_of(staged: &[ShelfSegment], shelf: &[ShelfSegment], block: &Found
 /// Whether the segment of each away block of a node is at hand.
 fn has_segments(staged: &[ShelfSegment], shelf: &[ShelfSegment], node: &FoundNode) -> bool
     ensures { let own = at_hand staged.now shelf.now in
-        IsTrue result ↔ SerialsAre (λ serial. IsSome (get own serial)) (node_found node.now).content }
+        IsTrue result
+        ↔ SerialsAre (λ serial. IsSome (get own serial)) (node_found node.now).content }
 {
     let blocks = node.blocks.as_slice();
     'each: for i in 0..blocks.len() {

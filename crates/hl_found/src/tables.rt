@@ -61,7 +61,8 @@ pub(crate) fn chain_of(
     rec: &Record,
 ) -> Result<Vec<ChainPart>, AllocError>
     requires { 4096 * log_end geometry.now ≤ length image.now }
-    ensures { IfOk result (λ chain. AreChainParts geometry.now (block_of image.now) rec.now chain.items) }
+    ensures { IfOk result
+        (λ chain. AreChainParts geometry.now (block_of image.now) rec.now chain.items) }
 {
     chain_parts(alloc, image, geometry, rec)
 }

@@ -9,7 +9,13 @@ use std::process::Abort;
 use std::test::*;
 
 /// What becomes of unsynced writes.
-const TEARS: [Tear; 4] = [Tear::Old, Tear::New, Tear::Prefix(5_000), Tear::Filled(0)];
+const TEARS: [Tear; 5] = [
+    Tear::Old,
+    Tear::New,
+    Tear::Prefix(100),
+    Tear::Prefix(5_000),
+    Tear::Filled(0),
+];
 
 fn small<T: Stoppable>(rt: &impl Abort, alloc: Global, block: u32) -> Result<T, Fail> {
     match T::small(alloc, block)? {

@@ -80,7 +80,8 @@ pub fn to_make_room_changes_no_node()
 pub fn a_use_shows_in_a_changed_draft()
     ensures shows { (g : Layout) (o : Overlaid) → IsOverlaid g o → (uses : List ℕ) (ino : ℕ)
         → KeepsOtherUses o.uses uses ino → (c : Contents) → ino < g.inodes → IsChangedDraft o ino
-        → let node = option_map (node_used (slice_index uses ino)) (get (nodes_now o c.nodes) ino) in
+        → let was = get (nodes_now o c.nodes) ino in
+        let node = option_map (node_used (slice_index uses ino)) was in
         nodes_now (with_uses o uses) c.nodes ≡ with_node (nodes_now o c.nodes) ino node }
     ensures waits { (g : Layout) (o : Overlaid) → IsOverlaid g o → (uses : List ℕ) (ino : ℕ)
         → KeepsOtherUses o.uses uses ino → (last : Nodes) → HasNoChangedDraft o ino

@@ -31,7 +31,8 @@ pub fn a_draft_is_of_the_node_now()
         → HasContents g image c → IsOverlaid g o → IsOver g o image c
         → (ino : ℕ) → ino < g.inodes → (d : NodeDraft) → draft_of o.overlay.drafts ino ≡ Some d
         → (i : ℕ) → i < 1036 → (h : Holding) → holding o.overlay ino i ≡ Some h
-        → old_block (get (nodes_now o c.nodes) ino) i ≡ block_held (old_block (get c.nodes ino) i) h }
+        → old_block (get (nodes_now o c.nodes) ino) i
+        ≡ block_held (old_block (get c.nodes ino) i) h }
     ensures kept { (g : Layout) (image : Image) (c : Contents) (o : Overlaid)
         → HasContents g image c → IsOverlaid g o → IsOver g o image c
         → (ino : ℕ) → ino < g.inodes → (d : NodeDraft) → draft_of o.overlay.drafts ino ≡ Some d
