@@ -136,6 +136,13 @@ impl Overlay {
         self.drafts.others()
     }
 
+    /// Tells the contracts of a caller what an overlay keeps. It does nothing.
+    pub fn tell_whole(&self)
+        ensures { IsWholeOverlay self.now }
+    {
+        let _ = self.drafts.others();
+    }
+
     /// How many numbers the next unit frees.
     pub fn freed(&self) -> u32
         ensures value { result ≡ length (freed_of self.now.drafts.items) }

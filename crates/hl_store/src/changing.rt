@@ -106,7 +106,7 @@ impl<M: Machine> Store<M> {
         ensures touches { Touches self.old self.new ino now }
         ensures uses { self.new.uses ≡ slice_set self.old.uses ino now }
     {
-        let _ = self.overlay.others();
+        self.overlay.tell_whole();
         self.uses[ino as usize] = now;
     }
 
@@ -165,7 +165,7 @@ impl<M: Machine> Store<M> {
         'blocks: for i in from..end {
             self.drop_block(ino, i);
         }
-        let _ = self.overlay.others();
+        self.overlay.tell_whole();
     }
 
     /// Makes a block of a drafted node a hole, if it isn't.
@@ -195,7 +195,7 @@ impl<M: Machine> Store<M> {
             None => unreachable!(),
         };
         self.overlay.set_shape(ino, shape);
-        let _ = self.overlay.others();
+        self.overlay.tell_whole();
         self.counts.change_shape(k, ino, &was, before, shape);
     }
 }

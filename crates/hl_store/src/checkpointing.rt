@@ -221,7 +221,7 @@ impl<M: Machine> Store<M> {
             gone,
             room,
         } = supplies;
-        let _ = self.overlay.others();
+        self.overlay.tell_whole();
         set_marks(&mut self.tables, marks.as_slice());
         let clean = &self.clean.as_slice()[self.taken..];
         let answer = write_tables(&mut self.log, alloc, &self.tables, &rec, clean);

@@ -30,7 +30,8 @@ impl<M: Machine> Store<M> {
         ensures noted { OnOk result (Notes self.old self.new change) }
         ensures err { OnErr result (self.new ≡ self.old) }
     {
-        let _ = self.overlay.others();
+        self.overlay.tell_whole();
+        // What a table of slots keeps is told by lending them.
         let _ = self.tables.slots().items();
         self.notes.push(change)?;
         self.tables.lay(0, 0, &[], &[change]);

@@ -116,7 +116,7 @@ impl<M: Machine> Store<M> {
         } else {
             let draft = read_draft(&mut self.log, &self.tables, alloc, ino)?;
             self.overlay.admit(draft, count)?;
-            let _ = self.overlay.others();
+            self.overlay.tell_whole();
         }
         Ok(())
     }

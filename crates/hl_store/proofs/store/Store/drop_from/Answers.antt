@@ -30,4 +30,4 @@ pub returns : goal.returns
 returns g c =
     let at = subst (λ (x : StoreValue g.row.M.Denot). draft_of x.overlay.drafts c.args.ino ≡ Some c.in-Some.draft.now) c.self.view_is (sym c.in-Some.ensures.value) in
     let end : blocks_of_shape c.in-Some.draft.now.shape ≤ c.blocks-2.i = subst (λ n. n ≤ c.blocks-2.i) c.blocks-end.ensures.value c.blocks-2-test.false in
-    all_dropped c.args.self.now c.blocks-2.self c.args.ino c.args.from c.blocks-2.i c.requires.number.high c.in-Some.draft.now at end (subst (λ (x : StoreValue g.row.M.Denot). IsWholeOverlay x.overlay) c.self-2.view_is c.others.ensures.whole) c.blocks-2.invariant.1
+    all_dropped c.args.self.now c.blocks-2.self c.args.ino c.args.from c.blocks-2.i c.requires.number.high c.in-Some.draft.now at end (subst (λ (x : StoreValue g.row.M.Denot). IsWholeOverlay x.overlay) c.self-2.view_is c.tell_whole.ensures) c.blocks-2.invariant.1

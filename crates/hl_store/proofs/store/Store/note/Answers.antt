@@ -16,4 +16,4 @@ pub returns-clause-noted : goal.returns-clause-noted
 returns-clause-noted g c =
     let of = subst (λ (v : StoreValue g.row.M.Denot). IsNoteOf (layout v) c.args.change) (sym c.self.view_is) c.requires in
     notes_change {M = g.row.M.Denot} _ c.args.change c.lay.new.self c.push.new.self.items c.raised-self-inside.result c.self.invariant.shape of c.in_ok-push.ensures.items
-    c.others.ensures.whole c.lay.ensures.value c.raised-self-inside.ensures c.args.self.now c.self.view_is
+    c.tell_whole.ensures c.lay.ensures.value c.raised-self-inside.ensures c.args.self.now c.self.view_is

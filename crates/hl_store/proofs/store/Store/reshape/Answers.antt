@@ -15,6 +15,6 @@ returns-clause-shape g c =
     let kind = subst (λ (x : StoreValue g.row.M.Denot). (d : NodeDraft) → draft_of x.overlay.drafts c.args.ino ≡ Some d → KeepsKind d c.args.shape) (sym c.self.view_is) c.requires.kind in
     let number = subst (λ (x : StoreValue g.row.M.Denot). IsNumber x c.args.ino) (sym c.self.view_is) c.requires.number in
     rw (← c.self.view_is) (reshapes _ c.self.invariant.shape c.draft.ensures.whole c.args.ino number c.args.shape can kind
-    c.set_shape.new.self c.others.ensures.whole c.set_shape.ensures.drafts c.set_shape.ensures.blocks c.set_shape.ensures.room c.change_shape.new.self
+    c.set_shape.new.self c.tell_whole.ensures c.set_shape.ensures.drafts c.set_shape.ensures.blocks c.set_shape.ensures.room c.change_shape.new.self
     (λ d at room. c.change_shape.ensures.counts c.self.inside.log.geometry d (ap (λ (l : Layout). l.k) (sym (c.behind-self.view_is ∙ c.geometry.ensures.value))) (sym (c.drafted_footing-was.ensures.value d at))
     (ap (λ (x : NodeDraft). x.shape) (one at (sym c.in-Some.ensures.value))) room))

@@ -14,5 +14,5 @@ returns-in_ok-reserve-clause-machine g c = reads_from c.self.view_is reads_none
 
 pub returns-in_ok-admit-clause-ok : goal.returns-in_ok-admit-clause-ok
 returns-in_ok-admit-clause-ok g c = admitted_seats {M = g.row.M.Denot} g.M.Machine.history _ _ _ c.args.ino c.args.count c.read_draft.new.log c.admit.new.self c.in_ok-draft.draft c.self.view_is refl c.in_ok-draft.ensures.same
-    c.self.invariant.shape c.draft.ensures.whole c.others.ensures.whole c.in_ok-draft.ensures.number (found_none c.draft.result _ (sym c.if-is_some.ensures) c.draft.ensures.value) c.in_ok-draft.ensures.unchanged c.in_ok-draft.ensures.draft
+    c.self.invariant.shape c.draft.ensures.whole c.tell_whole.ensures c.in_ok-draft.ensures.number (found_none c.draft.result _ (sym c.if-is_some.ensures) c.draft.ensures.value) c.in_ok-draft.ensures.unchanged c.in_ok-draft.ensures.draft
     c.in_ok-admit.ensures.ok c.in_ok-admit.ensures.last c.admit.ensures.blocks c.in_ok-admit.ensures.room

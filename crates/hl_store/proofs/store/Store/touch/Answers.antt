@@ -3,4 +3,4 @@ use Rattle.hl_store.proofs.store.Store.touch.Goals as goal
 
 pub returns-clause-touches : goal.returns-clause-touches
 returns-clause-touches g c =
-    rw (← c.self.view_is) (touched _ c.self.invariant.shape c.others.ensures.whole c.args.ino c.args.now (rw c.self.view_is c.requires.number.high))
+    rw (← c.self.view_is) (touched _ c.self.invariant.shape c.tell_whole.ensures c.args.ino c.args.now (rw c.self.view_is c.requires.number.high))

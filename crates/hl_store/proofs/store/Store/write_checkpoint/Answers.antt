@@ -10,7 +10,7 @@ returns-in_default g c = record {
   crash = checkpoint_crash {M = g.row.M.Denot} g.M.Machine.history g.M.Machine.faults g.M.Machine.write_faults _ _ c.args.supplies _ _ _ c.write_tables-answer.new.log c.write_tables-answer.result c.self.view_is c.requires.tidy c.requires.supplies
       (record {
         shaped = c.self.invariant.shape;
-        whole = c.others.ensures.whole;
+        whole = c.tell_whole.ensures;
         marks_are = c.as_slice.ensures.value;
         tables_are = c.set_marks.ensures;
         clean_is = take_rest c.as_slice-2.result.now c.self.inside.taken ∙ ap (drop c.self.inside.taken) c.as_slice-2.ensures.value;
@@ -22,7 +22,7 @@ returns-in_default g c = record {
   ends = checkpoint_fails {M = g.row.M.Denot} g.M.Machine.history g.M.Machine.faults g.M.Machine.write_faults _ _ c.args.supplies _ _ _ c.write_tables-answer.new.log c.write_tables-answer.result c.self.view_is c.requires.tidy c.requires.supplies
       (record {
         shaped = c.self.invariant.shape;
-        whole = c.others.ensures.whole;
+        whole = c.tell_whole.ensures;
         marks_are = c.as_slice.ensures.value;
         tables_are = c.set_marks.ensures;
         clean_is = take_rest c.as_slice-2.result.now c.self.inside.taken ∙ ap (drop c.self.inside.taken) c.as_slice-2.ensures.value;
@@ -51,7 +51,7 @@ invariant_of-self-2 g c = record {
   shape = checkpointed_shaped {M = g.row.M.Denot} g.M.Machine.history g.M.Machine.faults g.M.Machine.write_faults _ _ c.args.supplies _ _ _ c.write_tables-answer.new.log c.write_tables-answer.result c.self.view_is c.requires.tidy c.requires.supplies
       (record {
         shaped = c.self.invariant.shape;
-        whole = c.others.ensures.whole;
+        whole = c.tell_whole.ensures;
         marks_are = c.as_slice.ensures.value;
         tables_are = c.set_marks.ensures;
         clean_is = take_rest c.as_slice-2.result.now c.self.inside.taken ∙ ap (drop c.self.inside.taken) c.as_slice-2.ensures.value;
@@ -71,7 +71,7 @@ pub returns-clause-crash : goal.returns-clause-crash
 returns-clause-crash g c = checkpoint_crash {M = g.row.M.Denot} g.M.Machine.history g.M.Machine.faults g.M.Machine.write_faults _ _ c.args.supplies _ _ _ c.write_tables-answer.new.log c.write_tables-answer.result c.self.view_is c.requires.tidy c.requires.supplies
     (record {
       shaped = c.self.invariant.shape;
-      whole = c.others.ensures.whole;
+      whole = c.tell_whole.ensures;
       marks_are = c.as_slice.ensures.value;
       tables_are = c.set_marks.ensures;
       clean_is = take_rest c.as_slice-2.result.now c.self.inside.taken ∙ ap (drop c.self.inside.taken) c.as_slice-2.ensures.value;
@@ -84,7 +84,7 @@ pub returns-clause-ends : goal.returns-clause-ends
 returns-clause-ends g c = checkpoint_writes {M = g.row.M.Denot} g.M.Machine.history g.M.Machine.faults g.M.Machine.write_faults _ _ c.args.supplies _ _ _ c.write_tables-answer.new.log c.write_tables-answer.result c.self.view_is c.requires.tidy c.requires.supplies
     (record {
       shaped = c.self.invariant.shape;
-      whole = c.others.ensures.whole;
+      whole = c.tell_whole.ensures;
       marks_are = c.as_slice.ensures.value;
       tables_are = c.set_marks.ensures;
       clean_is = take_rest c.as_slice-2.result.now c.self.inside.taken ∙ ap (drop c.self.inside.taken) c.as_slice-2.ensures.value;
