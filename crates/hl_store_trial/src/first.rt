@@ -1,6 +1,9 @@
 //! The first image of a site: in segment 1 the root, which is an empty directory, in block 1, the tables in blocks 2 to 5,
 //! and the log's head at block 8.
 
+ghost use Rattle.std.specs.Prelude.{◌≡◌, IfSome};
+ghost use Rattle.hl_log.specs.Logs.{site_blocks};
+
 use hl_addr::{Geometry, NOTHING, Numbers};
 use hl_bytes::BLOCK;
 use hl_inode::{Inode, Kind, encode};
@@ -27,7 +30,9 @@ pub const AWAY_BYTE: u8 = 9;
 const AWAY: [u32; 2] = [4_294_966_977, 4_294_967_041];
 
 /// The blocks of a site's disk.
-pub fn disk_blocks(site: &Geometry) -> Option<u32> {
+pub fn disk_blocks(site: &Geometry) -> Option<u32>
+    ensures { IfSome result (λ n. n ≡ site_blocks site.now) }
+{
     (1 + site.log + site.lines).checked_mul(site.k)
 }
 
@@ -91,7 +96,7 @@ fn put_tables(image: &mut [u8], site: &Geometry, tables: &Tables) {
     for i in 0..tables.blocks() {
         let mut block = [0; BLOCK];
         tables.write_block(i, &mut block);
-        put_block(image, site.k + 2 + i, &block);
+        put_block(image, i.saturating_add(site.k + 2), &block);
     }
 }
 

@@ -1,11 +1,19 @@
 //! Stores opened on what is found in an image.
 
+ghost use Rattle.std.specs.Prelude.{◌≡◌, ◌+◌, ◌*◌, ◌<◌, ◌≤◌, IfOk, IfSome, IsTrue, OnOk, length};
+ghost use Rattle.hl_addr.specs.Layout.{Layout};
+ghost use Rattle.hl_bytes.specs.Buffers.{block_of};
+ghost use Rattle.hl_image.specs.Places.{IsLogPlace, log_end};
+ghost use Rattle.hl_log.specs.Logs.{site_blocks};
+ghost use Rattle.hl_tables.specs.Values.{AreTables};
+ghost use Rattle.hl_store_trial.specs.Parts.{AreCleanTo, AreOfLog};
+
 use crate::first::disk_blocks;
 use hl_addr::Geometry;
 use hl_bytes::BLOCK;
 use hl_found::{FoundContents, LiveAt, contents_of, live_blocks, next_tertiary};
 use hl_image::ChainPart;
-use hl_lines::LineTable;
+use hl_lines::{LineState, LineTable};
 use hl_log::Log;
 use hl_media::Machine;
 use hl_mem::MemMachine;
@@ -17,7 +25,9 @@ use hl_tseg::Slot;
 use std::alloc::{AllocError, Global};
 
 /// Whether the image has the log's segments.
-pub fn has_log(site: &Geometry, image: &[u8]) -> bool {
+pub fn has_log(site: &Geometry, image: &[u8]) -> bool
+    ensures { IsTrue result → 4096 * log_end site.now ≤ length image.now }
+{
     let log_end = site.k as usize * site.log as usize + site.k as usize;
     log_end <= image.len() / BLOCK
 }
@@ -38,7 +48,9 @@ fn chain_end(rec: &Record, chain: &[ChainPart]) -> (u32, u32, u64) {
 }
 
 /// Whether a part may begin there: a segment of the log, with room for a block behind the part's summary.
-fn is_log_place(site: &Geometry, seg: u32, block: u32) -> bool {
+fn is_log_place(site: &Geometry, seg: u32, block: u32) -> bool
+    ensures { IsTrue result → IsLogPlace site.now (record { seg = seg; block = block }) }
+{
     1 <= seg && seg <= site.log && block as u64 + 2 <= site.k as u64
 }
 
@@ -52,25 +64,47 @@ fn has_part(chain: &[ChainPart], seg: u32) -> bool {
     false
 }
 
+/// Pushes a segment that the tables don't use and in which no part of the chain lies, unless it is the head's.
+fn push_clean(
+    clean: &mut Vec<u32>,
+    found: &FoundContents,
+    head: u32,
+    seg: u32,
+) -> Result<(), AllocError>
+    requires low { 1 ≤ seg }
+    requires high { seg ≤ length found.now.tables.used }
+    requires few { seg < 4097 }
+    requires clean { AreCleanTo head seg clean.old.items }
+    ensures { OnOk result (AreCleanTo head (seg + 1) clean.new.items) }
+{
+    let is_used = found.tables.used(seg) || has_part(found.chain.as_slice(), seg);
+    if !is_used && seg != head {
+        clean.push(seg)?;
+    }
+    Ok(())
+}
+
 /// The segments that the tables don't use and in which no part of the chain lies, but for the head's.
 fn clean_of(
     alloc: Global,
     site: &Geometry,
     found: &FoundContents,
     head: u32,
-) -> Result<Vec<u32>, AllocError> {
+) -> Result<Vec<u32>, AllocError>
+    requires { length found.now.tables.used ≡ site.now.log }
+    ensures { IfOk result (λ clean. AreCleanTo head (site.now.log + 1) clean.items) }
+{
     let mut clean = Vec::new(alloc);
-    for seg in 1..site.log + 1 {
-        let is_used = found.tables.used(seg) || has_part(found.chain.as_slice(), seg);
-        if !is_used && seg != head {
-            clean.push(seg)?;
-        }
+    'segments: for seg in 1..site.log + 1 {
+        push_clean(&mut clean, found, head, seg)?;
     }
     Ok(clean)
 }
 
 /// How many of the blocks lie in each log segment, from 1 on.
-fn live_of(alloc: Global, site: &Geometry, lives: &[LiveAt]) -> Result<Vec<u32>, AllocError> {
+fn live_of(alloc: Global, site: &Geometry, lives: &[LiveAt]) -> Result<Vec<u32>, AllocError>
+    ensures { IfOk result (λ live. length live.items ≡ site.now.log) }
+{
     let mut live: Vec<u32> = vec![in alloc; 0; site.log as usize]?;
     for at in lives {
         let segment = (at.address / site.k) as usize;
@@ -86,7 +120,9 @@ fn uses_of(
     alloc: Global,
     site: &Geometry,
     nodes: &[Option<FoundNode>],
-) -> Result<Vec<u64>, AllocError> {
+) -> Result<Vec<u64>, AllocError>
+    ensures { IfOk result (λ uses. length uses.items ≡ site.now.inodes) }
+{
     let mut uses: Vec<u64> = vec![in alloc; 0; site.inodes as usize]?;
     for (number, node) in nodes.iter().enumerate() {
         if let Some(node) = node && number < uses.len() {
@@ -122,12 +158,26 @@ fn charge_of_all(nodes: &[Option<FoundNode>]) -> u32 {
     charge
 }
 
+/// Says that the line of a slot that is staged holds its segment, where the line is empty.
+fn stage(lines: &mut LineTable, count: u32, tseg: u32, slot: Slot)
+    requires { length lines.old.states ≡ count }
+    ensures { length lines.new.states ≡ length lines.old.states }
+{
+    if let Slot::Staged { line, .. } = slot {
+        if line < count && lines.state(line) == LineState::Empty && lines.of(tseg).is_none() {
+            lines.stage(tseg, line);
+        }
+    }
+}
+
 /// The lines of a site, of which those of the slots that are staged hold their segments.
-fn lines_of(alloc: Global, site: &Geometry, tables: &Tables) -> Result<LineTable, AllocError> {
+fn lines_of(alloc: Global, site: &Geometry, slots: &[Slot]) -> Result<LineTable, AllocError>
+    ensures { IfOk result (λ lines. length lines.states ≡ site.now.lines) }
+{
     let mut lines = LineTable::new(alloc, site.lines)?;
-    for (tseg, slot) in tables.slots().items().iter().enumerate() {
-        if let Slot::Staged { line, .. } = slot {
-            lines.stage(tseg as u32, *line);
+    'slots: for (tseg, slot) in slots.iter().enumerate() {
+        if let Ok(tseg) = u32::try_from(tseg) {
+            stage(&mut lines, site.lines, tseg, *slot);
         }
     }
     Ok(lines)
@@ -140,12 +190,15 @@ fn parts_of(
     head: u32,
     found: FoundContents,
     lives: &[LiveAt],
-) -> Result<StoreParts, AllocError> {
+) -> Result<StoreParts, AllocError>
+    requires { AreTables site.now found.tables }
+    ensures { IfOk result (AreOfLog site.now head) }
+{
     let tseg_serial = next_tertiary(&found);
     let clean = clean_of(alloc, site, &found, head)?;
     let FoundContents { tables, nodes, .. } = found;
     Ok(StoreParts {
-        lines: lines_of(alloc, site, &tables)?,
+        lines: lines_of(alloc, site, tables.slots().items())?,
         uses: uses_of(alloc, site, nodes.as_slice())?,
         live: live_of(alloc, site, lives)?,
         clean,
@@ -162,7 +215,9 @@ fn machine_of(
     site: &Geometry,
     image: &[u8],
     failing: &[u64],
-) -> Result<Option<MemMachine>, AllocError> {
+) -> Result<Option<MemMachine>, AllocError>
+    ensures { IfOk result (λ machine. IfSome machine (λ m. site_blocks site.now ≤ m.blocks)) }
+{
     let Some(blocks) = disk_blocks(site) else {
         return Ok(None);
     };
