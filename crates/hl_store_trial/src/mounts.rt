@@ -92,7 +92,8 @@ fn clean_of(
     head: u32,
 ) -> Result<Vec<u32>, AllocError>
     requires { length found.now.tables.used ≡ site.now.log }
-    ensures { IfOk result (λ clean. AreCleanTo head (site.now.log + 1) clean.items) }
+    ensures clean { IfOk result (λ clean. AreCleanTo head (site.now.log + 1) clean.items) }
+    ensures limits { site.now.log ≤ 4096 }
 {
     let mut clean = Vec::new(alloc);
     'segments: for seg in 1..site.log + 1 {

@@ -388,24 +388,39 @@ fn are_files(
     Ok(true)
 }
 
-/// Whether a stop at a moment leaves these nodes, and their files.
-fn leaves<T: Stored>(
+/// Whether a stop at a moment leaves the files of these nodes.
+fn leaves_files<T: Stored>(
     alloc: Global,
     store: &T,
     moment: u64,
     tear: Tear,
     nodes: &[Option<PlainNode>],
 ) -> Result<bool, AllocError> {
-    let Some(found) = store.nodes(alloc, moment, tear)? else {
-        return Ok(false);
-    };
-    if !are_nodes(found.as_slice(), nodes) {
-        return Ok(false);
-    }
     match store.files(alloc, moment, tear)? {
         Some(tree) => are_files(alloc, tree.rows(), nodes),
         None => Ok(false),
     }
+}
+
+/// Which of two lists of nodes a stop at a moment leaves: false for the first, true for the second.
+fn which_left<T: Stored>(
+    alloc: Global,
+    store: &T,
+    moment: u64,
+    tear: Tear,
+    before: &[Option<PlainNode>],
+    after: &[Option<PlainNode>],
+) -> Result<Option<bool>, AllocError> {
+    let Some(found) = store.nodes(alloc, moment, tear)? else {
+        return Ok(None);
+    };
+    if are_nodes(found.as_slice(), before) {
+        return Ok(Some(false));
+    }
+    if are_nodes(found.as_slice(), after) {
+        return Ok(Some(true));
+    }
+    Ok(None)
 }
 
 /// A stop at a moment leaves the nodes of before, or those of after.
@@ -418,9 +433,8 @@ fn leaves_one_of<T: Stored>(
     after: &[Option<PlainNode>],
 ) -> Result<(), Fail> {
     for tear in TEARS {
-        let old = leaves(alloc, store, moment, tear, before)?;
-        let new = leaves(alloc, store, moment, tear, after)?;
-        assert!(rt; old || new, "moment {moment}");
+        let which = which_left(alloc, store, moment, tear, before, after)?;
+        assert!(rt; which.is_some(), "moment {moment}");
     }
     Ok(())
 }
@@ -438,7 +452,8 @@ fn leaves_either<T: Stored>(
         leaves_one_of(rt, alloc, store, moment, before, after)?;
     }
     for tear in TEARS {
-        assert!(rt; leaves(alloc, store, store.now(), tear, after)?);
+        let which = which_left(alloc, store, store.now(), tear, before, after)?;
+        assert!(rt; which == Some(true));
     }
     Ok(())
 }
@@ -455,6 +470,8 @@ fn is_whole_or_absent<T: Stored + Drop>(rt: &impl Abort, alloc: Global) -> Resul
     let start = store.now();
     flushed(rt, alloc, &mut store);
     assert!(rt; start < store.now());
+    assert!(rt; leaves_files(alloc, &store, start, Tear::Old, first.as_slice())?);
+    assert!(rt; leaves_files(alloc, &store, store.now(), Tear::Old, other.as_slice())?);
     leaves_either(rt, alloc, &store, start, first.as_slice(), other.as_slice())
 }
 
