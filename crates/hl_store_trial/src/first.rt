@@ -85,11 +85,7 @@ fn put_away_file(image: &mut [u8], site: &Geometry) {
     };
     encode(&file, &mut block);
     put_block(image, site.k + 6, &block);
-    put_block(
-        image,
-        site.k * (1 + site.log + 3) + 1,
-        &[AWAY_BYTE; BLOCK],
-    );
+    put_block(image, site.k * (1 + site.log + 3) + 1, &[AWAY_BYTE; BLOCK]);
 }
 
 fn put_tables(image: &mut [u8], site: &Geometry, tables: &Tables) {

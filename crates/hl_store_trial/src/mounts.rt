@@ -126,7 +126,9 @@ fn uses_of(
 {
     let mut uses: Vec<u64> = vec![in alloc; 0; site.inodes as usize]?;
     for (number, node) in nodes.iter().enumerate() {
-        if let Some(node) = node && number < uses.len() {
+        if let Some(node) = node
+            && number < uses.len()
+        {
             uses[number] = node.used;
         }
     }

@@ -5,9 +5,9 @@ use crate::model::PlainNode;
 use crate::mounts::{has_log, open_on};
 use crate::nodes::{free, is_number, make, make_cut_and_grown};
 use crate::sites::Site;
+use hl_bytes::BLOCK;
 use hl_found::{contents_of, files_of, is_sound};
 use hl_log::UnitAnswer;
-use hl_bytes::BLOCK;
 use hl_mem::{MemMachine, Tear};
 use hl_nodes::FoundNode;
 use hl_store::{Found, NodeFound, Placed, Prepared, Store};
@@ -62,13 +62,7 @@ pub trait Stored {
 
     fn node(&mut self, alloc: Global, ino: u32) -> Option<NodeFound>;
 
-    fn block(
-        &mut self,
-        alloc: Global,
-        ino: u32,
-        i: u32,
-        out: &mut [u8; BLOCK],
-    ) -> Option<Found>;
+    fn block(&mut self, alloc: Global, ino: u32, i: u32, out: &mut [u8; BLOCK]) -> Option<Found>;
 
     fn place(&mut self, alloc: Global, ino: u32, i: u32) -> Option<Placed>;
 
@@ -192,13 +186,7 @@ impl Stored for Trial {
         Some(self.store.node(alloc, ino))
     }
 
-    fn block(
-        &mut self,
-        alloc: Global,
-        ino: u32,
-        i: u32,
-        out: &mut [u8; BLOCK],
-    ) -> Option<Found> {
+    fn block(&mut self, alloc: Global, ino: u32, i: u32, out: &mut [u8; BLOCK]) -> Option<Found> {
         if !is_number(&self.store, ino) {
             return None;
         }
