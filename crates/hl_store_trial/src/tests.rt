@@ -463,6 +463,9 @@ fn leaves_either<T: Stored>(
 ) -> Result<(), Fail> {
     for moment in start..store.now() {
         leaves_one_of(rt, alloc, store, moment, before, after)?;
+        let old = leaves_files(alloc, store, moment, Tear::Prefix(5_000), before)?;
+        let new = leaves_files(alloc, store, moment, Tear::Prefix(5_000), after)?;
+        assert!(rt; old != new, "moment {moment}");
     }
     for tear in TEARS {
         let which = which_left(alloc, store, store.now(), tear, before, after)?;
@@ -613,7 +616,7 @@ fn a_failing_read_is_a_fault_and_changes_nothing(rt: HostRuntime) -> Result<(), 
 }
 
 /// The flush of the first nodes, of which the call of this number fails: whether it does. The drafts are there still, and
-/// a stop then leaves the root alone or the nodes.
+/// each stop leaves the root alone or the nodes.
 fn fails_at<T: Stored + Drop>(
     rt: &impl Abort,
     alloc: Global,
@@ -624,13 +627,16 @@ fn fails_at<T: Stored + Drop>(
     let mut store = opened::<T>(rt, alloc, Site::Small, First::Root, &[call])?;
     make_all(rt, alloc, &mut store, after);
     let counted = store.counted();
+    let start = store.now();
     match store.flush(alloc) {
         UnitAnswer::Written { .. } => return Ok(false),
         answer => assert!(rt; answer == UnitAnswer::DiskFault),
     }
     assert!(rt; store.counted() == counted);
     has_nodes(rt, alloc, &mut store, after);
-    leaves_one_of(rt, alloc, &store, store.now(), before, after)?;
+    for moment in start..store.now().saturating_add(1) {
+        leaves_one_of(rt, alloc, &store, moment, before, after)?;
+    }
     Ok(true)
 }
 
