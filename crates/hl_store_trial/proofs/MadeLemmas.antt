@@ -1,5 +1,5 @@
 -- Nodes that a trial made.
-use Rattle.std.proofs.Common.{◌≡◌, refl, sym, ◌∙◌, ap, subst, ℕ, ◌+◌, ◌<◌, ◌≤◌, arith, Option, Some, None}
+use Rattle.std.proofs.Common.{◌≡◌, refl, sym, ◌∙◌, ap, subst, ℕ, ◌<◌, arith, Option, Some, None}
 use Rattle.std.specs.Prelude.{IsSome, option_map}
 use Rattle.std.specs.Option.{ForSome}
 use Rattle.std.proofs.lemmas.Option.{none-some, same_Some}
@@ -10,7 +10,7 @@ use Rattle.hl_overlay.specs.declared.draft.Shape.{Shape}
 use Rattle.hl_overlay.specs.declared.draft.NodeDraft.{NodeDraft}
 use Rattle.hl_overlay.specs.DraftTables.{HasBlock, draft_of}
 use Rattle.hl_overlay.specs.Drafting.{blocks_of_shape}
-use Rattle.hl_store.specs.Values.{StoreValue, layout}
+use Rattle.hl_store.specs.Values.{StoreValue}
 use Rattle.hl_store.specs.Shapes.{IsNumber}
 use Rattle.hl_store.specs.Changes.{IsOfKind, KeepsBeside, KeepsShapes, drafted_shape}
 use Rattle.hl_store.specs.Finding.{ReadsNodes}

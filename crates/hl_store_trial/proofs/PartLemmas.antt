@@ -3,10 +3,7 @@ use Rattle.std.proofs.Common.{◌≡◌, sym, ap, ◌∙◌, subst, false, ℕ, 
 use Rattle.std.proofs.lemmas.List.{length-replicate}
 use Rattle.hl_addr.specs.Layout.{Layout}
 use Rattle.hl_log.specs.Free.{AreClean}
-use Rattle.hl_log.specs.Logs.{LogValue}
-use Rattle.hl_mem.specs.declared.machine.MemMachine.{MemMachine}
 use Rattle.hl_tables.specs.Values.{AreTables}
-use Rattle.hl_store.specs.Opening.{AreParts}
 use Rattle.hl_store.specs.declared.store.StoreParts.{StoreParts}
 use Rattle.hl_store_trial.specs.Parts.{AreCleanTo, AreOfLog}
 use Rattle.hl_store_trial.proofs.CleanLemmas.{clean_all}

@@ -1,5 +1,5 @@
 -- Nodes that a trial made in a store.
-use Rattle.std.specs.Prelude.{◌≡◌, ℕ, ◌≤◌, Option, Some, length}
+use Rattle.std.specs.Prelude.{◌≡◌, ℕ, ◌≤◌, Some, length}
 use Rattle.hl_inode.specs.declared.inode.Kind.{Kind}
 use Rattle.hl_placed.specs.Blocks.{blocks_of}
 use Rattle.hl_overlay.specs.declared.draft.Shape.{Shape}

@@ -1,4 +1,4 @@
-use Rattle.std.proofs.Common.{◌≡◌, ◌+◌, ℕ, subst, arith}
+use Rattle.std.proofs.Common.{ℕ, subst, arith}
 use Rattle.hl_store_trial.specs.Parts.{AreCleanTo}
 use Rattle.hl_store_trial.proofs.mounts.clean_of.Goals as goal
 

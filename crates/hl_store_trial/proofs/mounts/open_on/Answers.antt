@@ -1,4 +1,4 @@
-use Rattle.std.proofs.Common.{◌≡◌, ap, subst}
+use Rattle.std.proofs.Common.{ap, subst}
 use Rattle.hl_bytes.specs.Buffers.{block_of}
 use Rattle.hl_found.specs.Found.{FindsContents, contents_found}
 use Rattle.hl_nodes.proofs.LaidTables.{laid_are_tables}

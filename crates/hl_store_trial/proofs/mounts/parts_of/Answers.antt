@@ -1,4 +1,3 @@
-use Rattle.std.proofs.Common.{◌≡◌}
 use Rattle.hl_store_trial.proofs.PartLemmas.{of_log}
 use Rattle.hl_store_trial.proofs.mounts.parts_of.Goals as goal
 

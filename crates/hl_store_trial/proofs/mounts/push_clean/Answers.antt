@@ -1,4 +1,3 @@
-use Rattle.std.proofs.Common.{◌≡◌, ◌+◌}
 use Rattle.hl_store_trial.proofs.CleanLemmas.{clean_push, clean_skip}
 use Rattle.hl_store_trial.proofs.mounts.push_clean.Goals as goal
 

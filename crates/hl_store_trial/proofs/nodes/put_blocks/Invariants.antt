@@ -1,4 +1,4 @@
-use Rattle.std.proofs.Common.{◌≡◌, ◌+◌, ◌≤◌, length}
+use Rattle.std.proofs.Common.{◌+◌, ◌≤◌, length}
 use Rattle.hl_store_trial.specs.Made.{IsMade}
 use Rattle.hl_store_trial.proofs.nodes.put_blocks.Given as goal
 
