@@ -1,0 +1,17 @@
+//! Stores of a small and of a wide site on disks in memory, for trials that compare them with a plain model and with what
+//! is found in their images, and stop them at each moment.
+#![tactic(auto)]
+
+mod first;
+mod model;
+mod mounts;
+mod nodes;
+mod sites;
+#[cfg(test)]
+mod tests;
+mod trial;
+
+pub use first::First;
+pub use model::{Plain, PlainNode};
+pub use sites::Site;
+pub use trial::{Counted, Stored, Trial};
