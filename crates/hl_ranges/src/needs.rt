@@ -1,0 +1,152 @@
+//! The tertiary segments whose bytes a call reads.
+
+ghost use Rattle.std.specs.Prelude.{◌≡◌, ◌+◌, ◌<◌, ◌≤◌, ◌^◌, length};
+ghost use Rattle.hl_log.specs.Logs.{OnlyReads};
+ghost use Rattle.hl_placed.specs.Calls as calls;
+ghost use Rattle.hl_store.specs.Shapes.{IsNumber};
+ghost use Rattle.hl_store.specs.Finding.{ReadsNodes};
+ghost use Rattle.hl_ranges.specs.Needs.{FindsNeeds};
+
+use crate::ranges::{BLOCK_BYTES, READ_MAX};
+use hl_media::Machine;
+use hl_store::{NodeFound, Placed, Store};
+use std::alloc::Global;
+
+/// Whether the segments that a call needs are at hand.
+#[derive(Clone, Copy, Debug, PartialEq, Eq)]
+pub enum Needed {
+    /// A line holds each of them.
+    AtHand,
+    /// No line holds the segment of this number, which is the first such in order of block index.
+    Missing(u32),
+    /// A read failed.
+    DiskFault,
+    Memory,
+}
+
+/// The segments of the away blocks of which a read returns a byte, appended in order of block index.
+pub fn read_needs<M: Machine>(
+    store: &mut Store<M>,
+    alloc: Global,
+    ino: u32,
+    at: u64,
+    len: u64,
+    tsegs: &mut Vec<u32>,
+) -> Needed
+    requires number { IsNumber store.old ino }
+    requires at { at ≤ 4243456 }
+    ensures needs { FindsNeeds M.history M.faults store.old store.new ino (calls.read_needs at len)
+        tsegs.old.items tsegs.new.items result }
+    ensures reads { ReadsNodes M.history store.old store.new }
+    ensures machine { OnlyReads M.history M.blocks M.faults M.write_faults M.say_faults
+        store.old.log.machine store.new.log.machine }
+{
+    let size = match store.node(alloc, ino) {
+        NodeFound::Node(node) => node.size,
+        NodeFound::Unused => return Needed::AtHand,
+        NodeFound::DiskFault => return Needed::DiskFault,
+        NodeFound::Memory => return Needed::Memory,
+    };
+    let end = (at + len.min(READ_MAX)).min(size);
+    if end <= at {
+        return Needed::AtHand;
+    }
+    let first = (at / BLOCK_BYTES) as u32;
+    let last = ((end - 1) / BLOCK_BYTES) as u32;
+    'blocks: for i in first..last + 1 {
+        match add_need(store, alloc, ino, i, tsegs) {
+            Needed::AtHand => {}
+            found => return found,
+        }
+    }
+    Needed::AtHand
+}
+
+/// The segments of the away blocks that a write of so many bytes changes without covering them.
+pub fn write_needs<M: Machine>(
+    store: &mut Store<M>,
+    alloc: Global,
+    ino: u32,
+    at: u64,
+    bytes: &[u8],
+    tsegs: &mut Vec<u32>,
+) -> Needed
+    requires number { IsNumber store.old ino }
+    requires within { at + length bytes.now ≤ 4243456 }
+    ensures needs { FindsNeeds M.history M.faults store.old store.new ino
+        (calls.write_needs at bytes.now) tsegs.old.items tsegs.new.items result }
+    ensures reads { ReadsNodes M.history store.old store.new }
+    ensures machine { OnlyReads M.history M.blocks M.faults M.write_faults M.say_faults
+        store.old.log.machine store.new.log.machine }
+{
+    let end = at + bytes.len() as u64;
+    if end <= at {
+        return Needed::AtHand;
+    }
+    let first = (at / BLOCK_BYTES) as u32;
+    let last = ((end - 1) / BLOCK_BYTES) as u32;
+    if at % BLOCK_BYTES != 0 || (last == first && end % BLOCK_BYTES != 0) {
+        match add_need(store, alloc, ino, first, tsegs) {
+            Needed::AtHand => {}
+            found => return found,
+        }
+    }
+    if first < last && end % BLOCK_BYTES != 0 {
+        return add_need(store, alloc, ino, last, tsegs);
+    }
+    Needed::AtHand
+}
+
+/// The segment of the away block that a cut fills up with zeros.
+pub fn cut_needs<M: Machine>(
+    store: &mut Store<M>,
+    alloc: Global,
+    ino: u32,
+    size: u64,
+    tsegs: &mut Vec<u32>,
+) -> Needed
+    requires number { IsNumber store.old ino }
+    requires size { size ≤ 4243456 }
+    ensures needs { FindsNeeds M.history M.faults store.old store.new ino (calls.cut_needs size)
+        tsegs.old.items tsegs.new.items result }
+    ensures reads { ReadsNodes M.history store.old store.new }
+    ensures machine { OnlyReads M.history M.blocks M.faults M.write_faults M.say_faults
+        store.old.log.machine store.new.log.machine }
+{
+    let before = match store.node(alloc, ino) {
+        NodeFound::Node(node) => node.size,
+        NodeFound::Unused => return Needed::AtHand,
+        NodeFound::DiskFault => return Needed::DiskFault,
+        NodeFound::Memory => return Needed::Memory,
+    };
+    if before <= size || size % BLOCK_BYTES == 0 {
+        return Needed::AtHand;
+    }
+    add_need(store, alloc, ino, (size / BLOCK_BYTES) as u32, tsegs)
+}
+
+/// The segment of one block, if it is away.
+fn add_need<M: Machine>(
+    store: &mut Store<M>,
+    alloc: Global,
+    ino: u32,
+    i: u32,
+    tsegs: &mut Vec<u32>,
+) -> Needed
+    requires number { IsNumber store.old ino }
+{
+    match store.place(alloc, ino, i) {
+        Placed::Hole | Placed::Here => Needed::AtHand,
+        Placed::Away { tseg, block: _ } => {
+            if store.lines().of(tseg).is_none() {
+                return Needed::Missing(tseg);
+            }
+            match tsegs.push(tseg) {
+                Ok(()) => Needed::AtHand,
+                Err(_) => Needed::Memory,
+            }
+        }
+        Placed::DiskFault => Needed::DiskFault,
+        Placed::Memory => Needed::Memory,
+    }
+}
