@@ -3,10 +3,11 @@ use Rattle.std.specs.Prelude.{◌≡◌, ℕ, List, [], ◌∷◌, ◌++◌, Opt
 use Rattle.hl_lines.specs.Lines.{line_with}
 use Rattle.hl_media.specs.Causes.{Rose}
 use Rattle.hl_media.specs.History.{History}
-use Rattle.hl_placed.specs.Blocks.{PlacedFile}
+use Rattle.hl_placed.specs.Blocks.{Away, Block, Here, Hole, PlacedFile}
 use Rattle.hl_tseg.specs.SlotTable.{slot_at}
 use Rattle.hl_tseg.specs.Slots.{HoldsSerial}
 use Rattle.hl_store.specs.Values.{StoreValue}
+use Rattle.hl_store.specs.Finding.{BlockNow, IsOutIn}
 use Rattle.hl_ranges.specs.declared.needs.Needed.{Needed}
 use Rattle.hl_ranges.specs.declared.needs.Needed.TheVariants as needed
 use Rattle.hl_ranges.specs.Files.{OfFile}
@@ -39,6 +40,19 @@ module _ {M : Type 0} where
     pub tsegs : List ℕ
     pub at_hand : AreAtHand v tsegs before
     pub missing : IsMissing v tseg serial
+
+  -- what one block adds to the slots: that of its segment, which a line holds; and nothing where it isn't away
+  abbrev pub AddsBlock : StoreValue M → List ℕ → List ℕ → Block → Type 0
+  AddsBlock v before tsegs Hole = tsegs ≡ before
+  AddsBlock v before tsegs (Here bytes) = tsegs ≡ before
+  AddsBlock v before tsegs (Away serial position) = (tseg : ℕ) × (tsegs ≡ before ++ tseg ∷ []) × IsAtHand v tseg serial
+
+  -- Whether the segment of block i of a number is at hand, if it is away.
+  abbrev pub FindsNeed : (M → Option History) → (M → ℕ) → StoreValue M → StoreValue M → ℕ → ℕ → List ℕ → List ℕ → Needed → Type 0
+  FindsNeed history faults old new ino i before tsegs needed.AtHand = BlockNow history old ino i (λ s block. AddsBlock old before tsegs block)
+  FindsNeed history faults old new ino i before tsegs (needed.Missing tseg) = BlockNow history old ino i (λ s block. IsOutIn old tseg block)
+  FindsNeed history faults old new ino i before tsegs needed.DiskFault = Rose (faults old.log.machine) (faults new.log.machine)
+  FindsNeed history faults old new ino i before tsegs needed.Memory = Unit {0}
 
   -- Which of the segments that a file needs are at hand: all, in order of block index, or the first that isn't.
   abbrev pub FindsNeeds : (M → Option History) → (M → ℕ) → StoreValue M → StoreValue M → ℕ → (PlacedFile → List ℕ) → List ℕ → List ℕ → Needed → Type 0

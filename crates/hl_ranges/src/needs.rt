@@ -3,9 +3,11 @@
 ghost use Rattle.std.specs.Prelude.{◌≡◌, ◌+◌, ◌<◌, ◌≤◌, ◌^◌, length};
 ghost use Rattle.hl_log.specs.Logs.{OnlyReads};
 ghost use Rattle.hl_placed.specs.Calls as calls;
+ghost use Rattle.hl_placed.specs.Calls.{serials};
+ghost use Rattle.hl_placed.specs.Changes.{meets};
 ghost use Rattle.hl_store.specs.Shapes.{IsNumber};
 ghost use Rattle.hl_store.specs.Finding.{ReadsNodes};
-ghost use Rattle.hl_ranges.specs.Needs.{FindsNeeds};
+ghost use Rattle.hl_ranges.specs.Needs.{FindsNeed, FindsNeeds};
 
 use crate::ranges::{BLOCK_BYTES, READ_MAX};
 use hl_media::Machine;
@@ -48,15 +50,37 @@ pub fn read_needs<M: Machine>(
         NodeFound::Memory => return Needed::Memory,
     };
     let end = (at + len.min(READ_MAX)).min(size);
+    needs_between(store, alloc, ino, at, end, tsegs)
+}
+
+/// The segments of the away blocks that have a byte from `at` up to `end`.
+fn needs_between<M: Machine>(
+    store: &mut Store<M>,
+    alloc: Global,
+    ino: u32,
+    at: u64,
+    end: u64,
+    tsegs: &mut Vec<u32>,
+) -> Needed
+    requires number { IsNumber store.old ino }
+    requires end { end < 2 ^ 32 }
+    ensures needs { FindsNeeds M.history M.faults store.old store.new ino (serials (meets at end))
+        tsegs.old.items tsegs.new.items result }
+    ensures reads { ReadsNodes M.history store.old store.new }
+    ensures machine { OnlyReads M.history M.blocks M.faults M.write_faults M.say_faults
+        store.old.log.machine store.new.log.machine }
+{
     if end <= at {
         return Needed::AtHand;
     }
     let first = (at / BLOCK_BYTES) as u32;
     let last = ((end - 1) / BLOCK_BYTES) as u32;
-    'blocks: for i in first..last + 1 {
+    'each: for i in first..last + 1 {
         match add_need(store, alloc, ino, i, tsegs) {
             Needed::AtHand => {}
-            found => return found,
+            Needed::Missing(tseg) => return Needed::Missing(tseg),
+            Needed::DiskFault => return Needed::DiskFault,
+            Needed::Memory => return Needed::Memory,
         }
     }
     Needed::AtHand
@@ -134,6 +158,11 @@ fn add_need<M: Machine>(
     tsegs: &mut Vec<u32>,
 ) -> Needed
     requires number { IsNumber store.old ino }
+    ensures need { FindsNeed M.history M.faults store.old store.new ino i
+        tsegs.old.items tsegs.new.items result }
+    ensures reads { ReadsNodes M.history store.old store.new }
+    ensures machine { OnlyReads M.history M.blocks M.faults M.write_faults M.say_faults
+        store.old.log.machine store.new.log.machine }
 {
     match store.place(alloc, ino, i) {
         Placed::Hole | Placed::Here => Needed::AtHand,

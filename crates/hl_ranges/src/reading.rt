@@ -47,7 +47,7 @@ pub fn read_range<M: Machine>(
     }
     let first = (at / BLOCK_BYTES) as u32;
     let last = ((end - 1) / BLOCK_BYTES) as u32;
-    'blocks: for i in first..last + 1 {
+    'each: for i in first..last + 1 {
         match read_one(store, alloc, ino, i, at, end, out) {
             RangeStep::Done => {}
             step => {
