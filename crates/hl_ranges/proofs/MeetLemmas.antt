@@ -1,19 +1,10 @@
 -- Which blocks have a byte of a range.
-use Rattle.std.proofs.Common.{◌≡◌, ℕ, ◌+◌, ◌-◌, ◌*◌, ◌/◌, ◌<◌, ◌≤◌, Bool, true, false, ◌&&◌, nat_lt, Option, None, refl, ap, ◌∙◌, arith}
+use Rattle.std.proofs.Common.{◌≡◌, ℕ, ◌+◌, ◌-◌, ◌*◌, ◌/◌, ◌<◌, ◌≤◌, Bool, true, false, ◌&&◌, not, nat_lt, nat_le, Option, None, refl, ap, ◌∙◌, arith}
 use Rattle.std.proofs.lemmas.Bool.Decides.{nat_tests}
 use Rattle.hl_placed.specs.Blocks.{Away, Block, Here, Hole, PlacedFile, file_block}
 use Rattle.hl_placed.specs.Calls.{serial_if}
 use Rattle.hl_placed.specs.Changes.{covers, ends_within, meets}
 use Rattle.hl_ranges.proofs.SerialLists.{serial_at}
-
-unpicked_block : (block : Block) → serial_if false block ≡ None
-unpicked_block Hole = refl
-unpicked_block (Here bytes) = refl
-unpicked_block (Away serial position) = refl
-
--- a block that isn't picked has no serial
-pub unpicked : (picked : ℕ → Bool) (file : PlacedFile) (k : ℕ) → picked k ≡ false → serial_at picked file k ≡ None
-unpicked picked file k is = ap (λ (b : Bool). serial_if b (file_block file k)) is ∙ unpicked_block (file_block file k)
 
 -- a test that a block's start and a range pass
 passed : (from to start : ℕ) → from < to → start < to → from < start + 4096 → (nat_lt from to && (nat_lt start to && nat_lt from (start + 4096))) ≡ true
@@ -44,3 +35,25 @@ meets-behind from to k h = failed_high from to (4096 * k) h
 pub meets-empty : (from to k : ℕ) → to ≤ from → meets from to k ≡ false
 unfolding meets
 meets-empty from to k h = failed_none from to (4096 * k) h
+
+both_false : (b : Bool) → (b && false) ≡ false
+both_false true = refl
+both_false false = refl
+
+-- a block that the range covers isn't reached in part; another of its blocks is
+pub partly-not : (from to k : ℕ) → covers from to k ≡ true → (meets from to k && not (covers from to k)) ≡ false
+partly-not from to k is = rw is (both_false (meets from to k))
+
+pub partly-is : (from to k : ℕ) → from < to → 4096 * k < to → from < 4096 * k + 4096 → covers from to k ≡ false → (meets from to k && not (covers from to k)) ≡ true
+partly-is from to k h low high is = rw (is, meets-inside from to k h low high) refl
+
+-- a block that the range doesn't meet isn't reached in part
+pub partly-none : (from to k : ℕ) → meets from to k ≡ false → (meets from to k && not (covers from to k)) ≡ false
+partly-none from to k is = rw is refl
+
+covered : (from to start : ℕ) → from ≤ start → start + 4096 ≤ to → (nat_le from start && nat_le (start + 4096) to) ≡ true
+covered from to start low high = grind (arith, nat_tests)
+
+pub covers-between : (from to k : ℕ) → from ≤ 4096 * k → 4096 * k + 4096 ≤ to → covers from to k ≡ true
+unfolding covers
+covers-between from to k low high = covered from to (4096 * k) low high

@@ -5,13 +5,13 @@ use Rattle.hl_media.specs.History.{History}
 use Rattle.hl_placed.specs.Blocks.{Away, Block, Here, Hole}
 use Rattle.hl_store.specs.Values.{StoreValue}
 use Rattle.hl_store.specs.Finding.{IsAwayAt, IsOutIn, ReadsNodes}
-use Rattle.hl_ranges.specs.Needs.{AddsBlock, AreAtHand, IsAtHand, IsFirstMissing, IsMissing}
-use Rattle.std.proofs.Common.{ap, ◌+◌, ◌≤◌, ◌<◌, subst, append_assoc, Bool, true, arith}
+use Rattle.hl_ranges.specs.Needs.{AddsBlock, AddsPicked, AreAtHand, IsAtHand, IsFirstMissing, IsMissing}
+use Rattle.std.proofs.Common.{ap, ◌+◌, ◌≤◌, ◌<◌, subst, append_assoc, Bool, true, false, arith}
 use Rattle.std.specs.List.{cons_option}
 use Rattle.std.proofs.lemmas.List.{append-nil}
 use Rattle.hl_placed.specs.Blocks.{PlacedFile, file_block}
 use Rattle.hl_placed.specs.Calls.{serial_if, serials}
-use Rattle.hl_ranges.proofs.SerialLists.{serial_at, serials-around, serials-from_below, serials_below, serials_below-more, serials_below-skip}
+use Rattle.hl_ranges.proofs.SerialLists.{serial_at, serials-around, serials-from_below, serials_below, serials_below-more, serials_below-skip, unpicked_block}
 use Rattle.hl_ranges.proofs.ReadSteps.{holds_before, line_before}
 
 module _ {M : Type 0} {history : M → Option History} where
@@ -53,20 +53,23 @@ module _ {M : Type 0} where
     pub has_all : (tsegs : List ℕ) (n : ℕ) → ((k : ℕ) → n ≤ k → serial_at picked file k ≡ None) → HasBelow v picked file before tsegs n → HasAll v picked file before tsegs
     has_all tsegs n none has = (has.0, has.1, subst (AreAtHand v has.0) (sym (serials-from_below picked file n none)) has.2)
 
-    -- block n adds its own
-    more : (tsegs new : List ℕ) (n : ℕ) (block : Block) → AddsBlock v tsegs new block → (own : List ℕ) → tsegs ≡ before ++ own → AreAtHand v own (serials_below picked file n)
-        → (more : List ℕ) × (new ≡ before ++ more) × AreAtHand v more (serials_below picked file n ++ cons_option (serial_if true block) [])
-    more tsegs new n Hole adds own are hands = (own, adds ∙ are, subst (AreAtHand v own) (sym (append-nil (serials_below picked file n))) hands)
-    more tsegs new n (Here bytes) adds own are hands = (own, adds ∙ are, subst (AreAtHand v own) (sym (append-nil (serials_below picked file n))) hands)
-    more tsegs new n (Away serial position) adds own are hands = (
+    -- block n adds its own, if it is picked
+    more : (tsegs new : List ℕ) (n : ℕ) (picks : Bool) (block : Block) → AddsPicked v picks tsegs new block → (own : List ℕ) → tsegs ≡ before ++ own → AreAtHand v own (serials_below picked file n)
+        → (more : List ℕ) × (new ≡ before ++ more) × AreAtHand v more (serials_below picked file n ++ cons_option (serial_if picks block) [])
+    more tsegs new n false block adds own are hands =
+        (own, adds ∙ are, subst (λ (o : Option ℕ). AreAtHand v own (serials_below picked file n ++ cons_option o [])) (sym (unpicked_block block))
+        (subst (AreAtHand v own) (sym (append-nil (serials_below picked file n))) hands))
+    more tsegs new n true Hole adds own are hands = (own, adds ∙ are, subst (AreAtHand v own) (sym (append-nil (serials_below picked file n))) hands)
+    more tsegs new n true (Here bytes) adds own are hands = (own, adds ∙ are, subst (AreAtHand v own) (sym (append-nil (serials_below picked file n))) hands)
+    more tsegs new n true (Away serial position) adds own are hands = (
       own ++ adds.0 ∷ [],
       adds.1 ∙ ap (λ (xs : List ℕ). xs ++ adds.0 ∷ []) are ∙ append_assoc before own (adds.0 ∷ []),
       AreAtHand-append v own (adds.0 ∷ []) (serials_below picked file n) (serial ∷ []) hands (adds.2, tt)
     )
 
-    pub has_more : (tsegs new : List ℕ) (n : ℕ) → picked n ≡ true → AddsBlock v tsegs new (file_block file n) → HasBelow v picked file before tsegs n → HasBelow v picked file before new (n + 1)
-    has_more tsegs new n is adds has =
-        let next = more tsegs new n (file_block file n) adds has.0 has.1 has.2 in
+    pub has_more : (tsegs new : List ℕ) (n : ℕ) (picks : Bool) → picked n ≡ picks → AddsPicked v picks tsegs new (file_block file n) → HasBelow v picked file before tsegs n → HasBelow v picked file before new (n + 1)
+    has_more tsegs new n picks is adds has =
+        let next = more tsegs new n picks (file_block file n) adds has.0 has.1 has.2 in
         (next.0, next.1, subst (AreAtHand v next.0) (ap (λ (b : Bool). serials_below picked file n ++ cons_option (serial_if b (file_block file n)) []) (sym is) ∙ sym (serials_below-more picked file n)) next.2)
 
     -- block n is the first that no line has

@@ -17,6 +17,12 @@ range-plus a (suc m) n =
     let s : suc m + n ≡ suc (m + n) = omega arith in
     rw (s, e) (ap (λ (xs : List ℕ). a ∷ xs) (range-plus (a + 1) m n))
 
+-- a block that isn't picked has no serial
+pub unpicked_block : (block : Block) → serial_if false block ≡ None
+unpicked_block Hole = refl
+unpicked_block (Here bytes) = refl
+unpicked_block (Away serial position) = refl
+
 module _ (picked : ℕ → Bool) (file : PlacedFile) where
   -- the serial of block i, if it is away and picked
   abbrev pub serial_at : ℕ → Option ℕ
@@ -75,3 +81,7 @@ module _ (picked : ℕ → Bool) (file : PlacedFile) where
       inl less ↦ (serials_from (n + 1) (length file.blocks - n - 1), around n (length file.blocks - n - 1) serial (omega arith) has)
     | inr past ↦ absurd (none-some serial (sym (serial_at-past n past) ∙ has))
     ]
+
+-- a block that isn't picked has no serial
+pub unpicked : (picked : ℕ → Bool) (file : PlacedFile) (k : ℕ) → picked k ≡ false → serial_at picked file k ≡ None
+unpicked picked file k is = ap (λ (b : Bool). serial_if b (file_block file k)) is ∙ unpicked_block (file_block file k)

@@ -1,5 +1,5 @@
 -- The tertiary segments whose bytes a call reads.
-use Rattle.std.specs.Prelude.{◌≡◌, ℕ, List, [], ◌∷◌, ◌++◌, Option, Some, None}
+use Rattle.std.specs.Prelude.{◌≡◌, ℕ, Bool, true, false, List, [], ◌∷◌, ◌++◌, Option, Some, None}
 use Rattle.hl_lines.specs.Lines.{line_with}
 use Rattle.hl_media.specs.Causes.{Rose}
 use Rattle.hl_media.specs.History.{History}
@@ -53,6 +53,18 @@ module _ {M : Type 0} where
   FindsNeed history faults old new ino i before tsegs (needed.Missing tseg) = BlockNow history old ino i (λ s block. IsOutIn old tseg block)
   FindsNeed history faults old new ino i before tsegs needed.DiskFault = Rose (faults old.log.machine) (faults new.log.machine)
   FindsNeed history faults old new ino i before tsegs needed.Memory = Unit {0}
+
+  -- what one block adds if it is picked
+  abbrev pub AddsPicked : StoreValue M → Bool → List ℕ → List ℕ → Block → Type 0
+  AddsPicked v true before tsegs block = AddsBlock v before tsegs block
+  AddsPicked v false before tsegs block = tsegs ≡ before
+
+  -- Whether the segment of block i of a number is at hand, if it is picked and away.
+  abbrev pub FindsPicked : (M → Option History) → (M → ℕ) → StoreValue M → StoreValue M → ℕ → ℕ → Bool → List ℕ → List ℕ → Needed → Type 0
+  FindsPicked history faults old new ino i picked before tsegs needed.AtHand = BlockNow history old ino i (λ s block. AddsPicked old picked before tsegs block)
+  FindsPicked history faults old new ino i picked before tsegs (needed.Missing tseg) = (picked ≡ true) × BlockNow history old ino i (λ s block. IsOutIn old tseg block)
+  FindsPicked history faults old new ino i picked before tsegs needed.DiskFault = Rose (faults old.log.machine) (faults new.log.machine)
+  FindsPicked history faults old new ino i picked before tsegs needed.Memory = Unit {0}
 
   -- Which of the segments that a file needs are at hand: all, in order of block index, or the first that isn't.
   abbrev pub FindsNeeds : (M → Option History) → (M → ℕ) → StoreValue M → StoreValue M → ℕ → (PlacedFile → List ℕ) → List ℕ → List ℕ → Needed → Type 0

@@ -1,13 +1,13 @@
 //! The tertiary segments whose bytes a call reads.
 
-ghost use Rattle.std.specs.Prelude.{◌≡◌, ◌+◌, ◌<◌, ◌≤◌, ◌^◌, length};
+ghost use Rattle.std.specs.Prelude.{◌≡◌, ◌+◌, ◌*◌, ◌<◌, ◌≤◌, ◌^◌, ◌&&◌, not, length};
 ghost use Rattle.hl_log.specs.Logs.{OnlyReads};
 ghost use Rattle.hl_placed.specs.Calls as calls;
 ghost use Rattle.hl_placed.specs.Calls.{serials};
-ghost use Rattle.hl_placed.specs.Changes.{meets};
+ghost use Rattle.hl_placed.specs.Changes.{covers, meets};
 ghost use Rattle.hl_store.specs.Shapes.{IsNumber};
 ghost use Rattle.hl_store.specs.Finding.{ReadsNodes};
-ghost use Rattle.hl_ranges.specs.Needs.{FindsNeed, FindsNeeds};
+ghost use Rattle.hl_ranges.specs.Needs.{FindsNeed, FindsNeeds, FindsPicked};
 
 use crate::ranges::{BLOCK_BYTES, READ_MAX};
 use hl_media::Machine;
@@ -109,16 +109,16 @@ pub fn write_needs<M: Machine>(
     }
     let first = (at / BLOCK_BYTES) as u32;
     let last = ((end - 1) / BLOCK_BYTES) as u32;
-    if at % BLOCK_BYTES != 0 || (last == first && end % BLOCK_BYTES != 0) {
-        match add_need(store, alloc, ino, first, tsegs) {
-            Needed::AtHand => {}
-            found => return found,
-        }
+    match add_partly(store, alloc, ino, first, at, end, tsegs) {
+        Needed::AtHand => {}
+        Needed::Missing(tseg) => return Needed::Missing(tseg),
+        Needed::DiskFault => return Needed::DiskFault,
+        Needed::Memory => return Needed::Memory,
     }
-    if first < last && end % BLOCK_BYTES != 0 {
-        return add_need(store, alloc, ino, last, tsegs);
+    if last == first {
+        return Needed::AtHand;
     }
-    Needed::AtHand
+    add_partly(store, alloc, ino, last, at, end, tsegs)
 }
 
 /// The segment of the away block that a cut fills up with zeros.
@@ -147,6 +147,41 @@ pub fn cut_needs<M: Machine>(
         return Needed::AtHand;
     }
     add_need(store, alloc, ino, (size / BLOCK_BYTES) as u32, tsegs)
+}
+
+/// The segment of one block, if it is away and only a part of it lies from `at` up to `end`.
+fn add_partly<M: Machine>(
+    store: &mut Store<M>,
+    alloc: Global,
+    ino: u32,
+    i: u32,
+    at: u64,
+    end: u64,
+    tsegs: &mut Vec<u32>,
+) -> Needed
+    requires number { IsNumber store.old ino }
+    requires nonempty { at < end }
+    requires starts { 4096 * i < end }
+    requires ends { at < 4096 * i + 4096 }
+    ensures need { FindsPicked M.history M.faults store.old store.new ino i
+        (meets at end i && not (covers at end i)) tsegs.old.items tsegs.new.items result }
+    ensures reads { ReadsNodes M.history store.old store.new }
+    ensures machine { OnlyReads M.history M.blocks M.faults M.write_faults M.say_faults
+        store.old.log.machine store.new.log.machine }
+{
+    if is_covered(i, at, end) {
+        return Needed::AtHand;
+    }
+    add_need(store, alloc, ino, i, tsegs)
+}
+
+/// Each byte of block `i` lies from `at` up to `end`.
+#[tactic(auto, unfolding(hl_placed::specs::Changes::covers))]
+fn is_covered(i: u32, at: u64, end: u64) -> bool
+    ensures { result ≡ covers at end i }
+{
+    let start = i as u64 * BLOCK_BYTES;
+    at <= start && start + BLOCK_BYTES <= end
 }
 
 /// The segment of one block, if it is away.

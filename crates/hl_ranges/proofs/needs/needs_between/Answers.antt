@@ -1,6 +1,7 @@
 use Rattle.std.proofs.Common.{◌≡◌, ◌+◌, ◌-◌, ◌*◌, ◌/◌, ◌<◌, ◌≤◌, ℕ, arith, true}
 use Rattle.hl_placed.specs.Changes.{meets}
-use Rattle.hl_ranges.proofs.MeetLemmas.{meets-before, meets-behind, meets-empty, meets-inside, unpicked}
+use Rattle.hl_ranges.proofs.MeetLemmas.{meets-before, meets-behind, meets-empty, meets-inside}
+use Rattle.hl_ranges.proofs.SerialLists.{unpicked}
 use Rattle.hl_ranges.proofs.NeedRuns.{so_far_all, so_far_missing, so_far_more, so_far_none, so_far_skip}
 use Rattle.hl_store.proofs.ReadRuns.{reads_then, rose_since}
 use Rattle.hl_ranges.proofs.ReadSteps.{number_then, reads_nodes_then}
@@ -36,7 +37,7 @@ pub each-preserved : goal.each-preserved
 each-preserved g c =
     let is : meets c.args.at c.args.end c.each.i ≡ true = meets-inside c.args.at c.args.end c.each.i c.if-end-at.false (omega arith) (omega arith) in
     so_far_more g.M.Machine.history g.M.Machine.blocks g.M.Machine.faults g.M.Machine.write_faults g.M.Machine.say_faults
-    c.args.store.now c.args.ino (λ file. meets c.args.at c.args.end) c.args.tsegs.now.items c.each.store c.add_need.new.store c.each.tsegs.items c.add_need.new.tsegs.items c.each.i c.each.invariant
+    c.args.store.now c.args.ino (λ file. meets c.args.at c.args.end) c.args.tsegs.now.items c.each.store c.add_need.new.store c.each.tsegs.items c.add_need.new.tsegs.items c.each.i true c.each.invariant
     (λ h e contents lies shelf file lines has. is) c.in-AtHand.ensures.need c.in-AtHand.ensures.reads c.in-AtHand.ensures.machine
 
 pub returns-clause-needs : goal.returns-clause-needs
