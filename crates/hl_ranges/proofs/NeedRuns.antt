@@ -65,6 +65,10 @@ module _ {M : Type 0} (history : M → Option History) (blocks faults write_faul
     hands = λ h e c lies shelf file lines has. has_none old (picked file) file before;
   }
 
+  -- behind other reads there are none either
+  pub so_far_read : (mid : StoreValue M) → ReadsNodes history old mid → OnlyReads history blocks faults write_faults say_faults old.log.machine mid.log.machine → SoFar mid before 0
+  so_far_read mid reads machine = record { reads = reads; machine = machine; hands = so_far_none.hands }
+
   -- no block between two has a serial
   pub so_far_skip : (mid : StoreValue M) (tsegs : List ℕ) (m n : ℕ) → m ≤ n
       → OfFile history old ino (λ c shelf file. (k : ℕ) → m ≤ k → k < n → serial_at (picked file) file k ≡ None) → SoFar mid tsegs m → SoFar mid tsegs n

@@ -143,7 +143,10 @@ pub fn cut_needs<M: Machine>(
         NodeFound::DiskFault => return Needed::DiskFault,
         NodeFound::Memory => return Needed::Memory,
     };
-    if before <= size || size % BLOCK_BYTES == 0 {
+    if before <= size {
+        return Needed::AtHand;
+    }
+    if size % BLOCK_BYTES == 0 {
         return Needed::AtHand;
     }
     add_need(store, alloc, ino, (size / BLOCK_BYTES) as u32, tsegs)
