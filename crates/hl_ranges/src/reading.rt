@@ -65,7 +65,7 @@ fn read_between<M: Machine>(
     if out.reserve((end - at) as usize).is_err() {
         return RangeStep::Memory;
     }
-    let before = out.len();
+    let before = out.as_slice().len();
     let mut from = at;
     'parts: while from < end {
         let to = end.min((from / BLOCK_BYTES + 1) * BLOCK_BYTES);

@@ -7,7 +7,7 @@ returns-in-Ok-clause-part g c =
     let count : (c.args.from % 4096 + (c.args.to - c.args.from)) - c.args.from % 4096 ≡ c.args.to - c.args.from = omega arith in
     (
       take (c.args.to - c.args.from) (drop (c.args.from % 4096) c.read_block.new.block),
-      c.in-Ok.ensures.items ∙ ap (λ (n : ℕ). c.args.out.now.items ++ take n (drop (c.args.from % 4096) c.read_block.new.block)) count,
+      ◌∙◌ {A = List ℕ} c.in-Ok.ensures.items (ap (λ (n : ℕ). c.args.out.now.items ++ take n (drop (c.args.from % 4096) c.read_block.new.block)) count),
       λ h e contents lies shelf file lines has.
       part_of_block shelf file c.read_block.new.block c.args.from c.args.to c.in-Done.ensures.size c.requires.low c.requires.high (c.in-Done.ensures.block h e contents lies shelf file lines has)
     )
