@@ -1,5 +1,5 @@
 -- The block that a cut fills up with zeros.
-use Rattle.std.proofs.Common.{◌≡◌, ℕ, ◌+◌, ◌-◌, ◌*◌, ◌/◌, ◌%◌, ◌<◌, ◌≤◌, Bool, true, false, ◌&&◌, nat_lt, List, [], Option, refl, arith}
+use Rattle.std.proofs.Common.{◌≡◌, ℕ, ◌+◌, ◌*◌, ◌/◌, ◌%◌, ◌<◌, ◌≤◌, true, false, ◌&&◌, nat_lt, List, Option, arith}
 use Rattle.std.proofs.Common.{inl, inr}
 use Rattle.std.proofs.lemmas.Bool.{cases_lt}
 use Rattle.std.proofs.lemmas.Bool.Decides.{nat_tests}
@@ -16,7 +16,7 @@ use Rattle.hl_ranges.specs.declared.needs.Needed.TheVariants as needed
 use Rattle.hl_ranges.specs.Files.{OfFile}
 use Rattle.hl_ranges.specs.Needs.{FindsNeed, FindsNeeds}
 use Rattle.hl_ranges.proofs.SerialLists.{unpicked}
-use Rattle.hl_ranges.proofs.NeedRuns.{NeedsSoFar, so_far_all, so_far_missing, so_far_more, so_far_none, so_far_read, so_far_skip}
+use Rattle.hl_ranges.proofs.NeedRuns.{NeedsSoFar, so_far_all, so_far_missing, so_far_more, so_far_read, so_far_skip}
 
 over : (size long start : ℕ) → long ≤ size → (nat_lt size long && (nat_lt start size && nat_lt size (start + 4096))) ≡ false
 over size long start h = grind (arith, nat_tests)
@@ -52,9 +52,9 @@ module _ (file : PlacedFile) (size : ℕ) where
   -- no block where the size is whole blocks
   pub cuts-whole : (k : ℕ) → size % 4096 ≡ 0 → cuts file size k ≡ false
   cuts-whole k whole = elim (cases_lt k (size / 4096)) as (λ _. cuts file size k ≡ false) [
-      inl less ↦ cuts-before k (omega arith)
+    | inl less ↦ cuts-before k (omega arith)
     | inr ge ↦ cuts-behind k (omega arith)
-    ]
+  ]
 
 module _ {M : Type 0} (history : M → Option History) (blocks faults write_faults say_faults : M → ℕ) (old mid : StoreValue M) (ino size : ℕ) (before : List ℕ)
     (reads : ReadsNodes history old mid) (machine : OnlyReads history blocks faults write_faults say_faults old.log.machine mid.log.machine) where
@@ -77,8 +77,10 @@ module _ {M : Type 0} (history : M → Option History) (blocks faults write_faul
       run : NeedsSoFar history blocks faults write_faults say_faults old mid ino (λ file. cuts file size) before before (size / 4096)
       run = so_far_skip history blocks faults write_faults say_faults old ino (λ file. cuts file size) before mid before 0 (size / 4096) (omega arith)
           (λ h e c lies shelf file lines has k low high. unpicked (cuts file size) file k (cuts-before file size k (omega arith))) start
+
       is : OfFile history old ino (λ c shelf file. cuts file size (size / 4096) ≡ true)
       is = λ h e c lies shelf file lines has. cuts-inside file size (size / 4096) (longer h e c lies shelf file lines has) (omega (arith, part)) (omega arith)
+
       by_answer : (found : Needed) → FindsNeed history faults mid new ino (size / 4096) before tsegs found → FindsNeeds history faults old new ino (calls.cut_needs size) before tsegs found
       by_answer needed.AtHand finds =
           so_far_all history blocks faults write_faults say_faults old ino (λ file. cuts file size) before new tsegs (size / 4096 + 1)

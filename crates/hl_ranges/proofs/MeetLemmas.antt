@@ -1,10 +1,7 @@
 -- Which blocks have a byte of a range.
-use Rattle.std.proofs.Common.{◌≡◌, ℕ, ◌+◌, ◌-◌, ◌*◌, ◌/◌, ◌<◌, ◌≤◌, Bool, true, false, ◌&&◌, not, nat_lt, nat_le, Option, None, refl, ap, ◌∙◌, arith}
+use Rattle.std.proofs.Common.{◌≡◌, ℕ, ◌+◌, ◌*◌, ◌<◌, ◌≤◌, Bool, true, false, ◌&&◌, not, nat_lt, nat_le, refl, arith}
 use Rattle.std.proofs.lemmas.Bool.Decides.{nat_tests}
-use Rattle.hl_placed.specs.Blocks.{Away, Block, Here, Hole, PlacedFile, file_block}
-use Rattle.hl_placed.specs.Calls.{serial_if}
-use Rattle.hl_placed.specs.Changes.{covers, ends_within, meets}
-use Rattle.hl_ranges.proofs.SerialLists.{serial_at}
+use Rattle.hl_placed.specs.Changes.{covers, meets}
 
 -- a test that a block's start and a range pass
 passed : (from to start : ℕ) → from < to → start < to → from < start + 4096 → (nat_lt from to && (nat_lt start to && nat_lt from (start + 4096))) ≡ true

@@ -1,5 +1,5 @@
 -- A run over the blocks of a file, for the segments that are needed.
-use Rattle.std.proofs.Common.{◌≡◌, ℕ, ◌+◌, ◌<◌, ◌≤◌, Bool, true, false, List, [], ◌∷◌, ◌++◌, Option, Some, None, refl, arith}
+use Rattle.std.proofs.Common.{◌≡◌, ℕ, ◌+◌, ◌<◌, ◌≤◌, Bool, true, false, List, Option, Some, None, refl}
 use Rattle.hl_media.specs.History.{History}
 use Rattle.hl_log.specs.Logs.{OnlyReads}
 use Rattle.hl_placed.specs.Blocks.{Away, Block, Here, Hole, PlacedFile, file_block}
@@ -11,7 +11,7 @@ use Rattle.hl_ranges.specs.declared.needs.Needed.{Needed}
 use Rattle.hl_ranges.specs.declared.needs.Needed.TheVariants as needed
 use Rattle.hl_ranges.specs.Files.{OfFile}
 use Rattle.hl_ranges.specs.Needs.{AddsBlock, AddsPicked, FindsNeed, FindsPicked, IsFirstMissing}
-use Rattle.hl_ranges.proofs.ReadSteps.{holds_before, line_before, of_block, of_file_before, of_file_both, of_file_then, reads_nodes_none, reads_nodes_then}
+use Rattle.hl_ranges.proofs.ReadSteps.{holds_before, line_before, of_block, of_file_before, reads_nodes_none, reads_nodes_then}
 use Rattle.hl_ranges.proofs.SerialLists.{serial_at}
 use Rattle.hl_ranges.proofs.NeedSteps.{HasAll, HasBelow, has_all, has_more, has_none, has_skip, misses_first}
 
@@ -85,7 +85,7 @@ module _ {M : Type 0} (history : M → Option History) (blocks faults write_faul
       → ReadsNodes history mid new → OnlyReads history blocks faults write_faults say_faults mid.log.machine new.log.machine → SoFar new more (n + 1)
   so_far_more mid new tsegs more n picks run is adds reads machine =
       let added = of_file_before old mid ino (λ c shelf file. AddsPicked mid picks tsegs more (file_block file n)) run.reads run.machine
-          (of_block history mid ino n (λ block. AddsPicked mid picks tsegs more block) adds) in
+      (of_block history mid ino n (λ block. AddsPicked mid picks tsegs more block) adds) in
       record {
         reads = reads_nodes_then run.machine run.reads reads;
         machine = reads_then run.machine machine;
@@ -100,7 +100,7 @@ module _ {M : Type 0} (history : M → Option History) (blocks faults write_faul
       → BlockNow history mid ino n (λ s block. IsOutIn mid tseg block) → OfFile history old ino (λ c shelf file. IsFirstMissing old tseg (serials (picked file) file))
   so_far_missing mid tsegs tseg n run is out =
       let found = of_file_before old mid ino (λ c shelf file. IsOutIn mid tseg (file_block file n)) run.reads run.machine
-          (of_block history mid ino n (λ block. IsOutIn mid tseg block) out) in
+      (of_block history mid ino n (λ block. IsOutIn mid tseg block) out) in
       λ h e c lies shelf file lines has.
       misses_first old (picked file) file before tsegs tseg n (is h e c lies shelf file lines has)
       (out_before run.reads tseg (file_block file n) (found h e c lies shelf file lines has)) (run.hands h e c lies shelf file lines has)

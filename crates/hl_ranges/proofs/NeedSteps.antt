@@ -5,14 +5,14 @@ use Rattle.hl_media.specs.History.{History}
 use Rattle.hl_placed.specs.Blocks.{Away, Block, Here, Hole}
 use Rattle.hl_store.specs.Values.{StoreValue}
 use Rattle.hl_store.specs.Finding.{IsAwayAt, IsOutIn, ReadsNodes}
-use Rattle.hl_ranges.specs.Needs.{AddsBlock, AddsPicked, AreAtHand, IsAtHand, IsFirstMissing, IsMissing}
-use Rattle.std.proofs.Common.{ap, ◌+◌, ◌≤◌, ◌<◌, subst, append_assoc, Bool, true, false, arith}
+use Rattle.hl_ranges.specs.Needs.{AddsBlock, AddsPicked, AreAtHand, IsFirstMissing, IsMissing}
+use Rattle.std.proofs.Common.{ap, ◌+◌, ◌≤◌, ◌<◌, subst, append_assoc, Bool, true, false}
 use Rattle.std.specs.List.{cons_option}
 use Rattle.std.proofs.lemmas.List.{append-nil}
 use Rattle.hl_placed.specs.Blocks.{PlacedFile, file_block}
 use Rattle.hl_placed.specs.Calls.{serial_if, serials}
 use Rattle.hl_ranges.proofs.SerialLists.{serial_at, serials-around, serials-from_below, serials_below, serials_below-more, serials_below-skip, unpicked_block}
-use Rattle.hl_ranges.proofs.ReadSteps.{holds_before, line_before}
+use Rattle.hl_ranges.proofs.ReadSteps.{line_before}
 
 module _ {M : Type 0} {history : M → Option History} where
   -- an away block of which a line holds the segment adds the slot of that
@@ -56,15 +56,18 @@ module _ {M : Type 0} where
     -- block n adds its own, if it is picked
     more : (tsegs new : List ℕ) (n : ℕ) (picks : Bool) (block : Block) → AddsPicked v picks tsegs new block → (own : List ℕ) → tsegs ≡ before ++ own → AreAtHand v own (serials_below picked file n)
         → (more : List ℕ) × (new ≡ before ++ more) × AreAtHand v more (serials_below picked file n ++ cons_option (serial_if picks block) [])
-    more tsegs new n false block adds own are hands =
-        (own, adds ∙ are, subst (λ (o : Option ℕ). AreAtHand v own (serials_below picked file n ++ cons_option o [])) (sym (unpicked_block block))
-        (subst (AreAtHand v own) (sym (append-nil (serials_below picked file n))) hands))
+    more tsegs new n false block adds own are hands = (
+      own,
+      adds ∙ are,
+      subst (λ (o : Option ℕ). AreAtHand v own (serials_below picked file n ++ cons_option o [])) (sym (unpicked_block block))
+          (subst (AreAtHand v own) (sym (append-nil (serials_below picked file n))) hands),
+    )
     more tsegs new n true Hole adds own are hands = (own, adds ∙ are, subst (AreAtHand v own) (sym (append-nil (serials_below picked file n))) hands)
     more tsegs new n true (Here bytes) adds own are hands = (own, adds ∙ are, subst (AreAtHand v own) (sym (append-nil (serials_below picked file n))) hands)
     more tsegs new n true (Away serial position) adds own are hands = (
       own ++ adds.0 ∷ [],
       adds.1 ∙ ap (λ (xs : List ℕ). xs ++ adds.0 ∷ []) are ∙ append_assoc before own (adds.0 ∷ []),
-      AreAtHand-append v own (adds.0 ∷ []) (serials_below picked file n) (serial ∷ []) hands (adds.2, tt)
+      AreAtHand-append v own (adds.0 ∷ []) (serials_below picked file n) (serial ∷ []) hands (adds.2, tt),
     )
 
     pub has_more : (tsegs new : List ℕ) (n : ℕ) (picks : Bool) → picked n ≡ picks → AddsPicked v picks tsegs new (file_block file n) → HasBelow v picked file before tsegs n → HasBelow v picked file before new (n + 1)

@@ -1,5 +1,5 @@
 -- What a store that was read needs, the store before needs.
-use Rattle.std.proofs.Common.{◌≡◌, ℕ, ◌+◌, ◌<◌, ◌≤◌, Bool, true, List, [], ◌∷◌, ◌++◌, Option, Some, None, refl, sym, ◌∙◌, ap, subst, min, arith}
+use Rattle.std.proofs.Common.{◌≡◌, ℕ, List, [], ◌∷◌, ◌++◌, Option, Some, None, sym, ◌∙◌, ap, subst}
 use Rattle.std.specs.FinMap.{get}
 use Rattle.std.proofs.lemmas.Option.{none-some, same_Some}
 use Rattle.hl_media.specs.History.{History}
@@ -14,7 +14,7 @@ use Rattle.hl_store.proofs.ReadRuns.{rose_since}
 use Rattle.hl_ranges.specs.declared.needs.Needed.{Needed}
 use Rattle.hl_ranges.specs.declared.needs.Needed.TheVariants as needed
 use Rattle.hl_ranges.specs.Files.{OfFile, file_node}
-use Rattle.hl_ranges.specs.Needs.{AreAtHand, FindsNeeds, IsAtHand, IsFirstMissing}
+use Rattle.hl_ranges.specs.Needs.{AreAtHand, FindsNeeds, IsFirstMissing}
 use Rattle.hl_ranges.proofs.ReadSteps.{holds_before, line_before, of_file_before}
 
 module _ {M : Type 0} (history : M → Option History) (v : StoreValue M) (ino : ℕ) where
@@ -35,7 +35,7 @@ module _ {M : Type 0} {history : M → Option History} {old mid : StoreValue M} 
   at_hand_before (tseg ∷ tsegs) [] hands = absurd hands
   at_hand_before (tseg ∷ tsegs) (serial ∷ serials) hands = (
     record { holds = holds_before reads tseg serial hands.0.holds; line = hands.0.line; held = line_before reads tseg (Some hands.0.line) hands.0.held },
-    at_hand_before tsegs serials hands.1
+    at_hand_before tsegs serials hands.1,
   )
 
   missing_before : (tseg : ℕ) (serials : List ℕ) → IsFirstMissing mid tseg serials → IsFirstMissing old tseg serials

@@ -1,16 +1,14 @@
 -- The blocks that a range reaches in part: the first of its blocks and the last at most.
-use Rattle.std.proofs.Common.{◌≡◌, ℕ, ◌+◌, ◌-◌, ◌*◌, ◌/◌, ◌<◌, ◌≤◌, Bool, true, false, ◌&&◌, not, List, [], Option, refl, arith}
+use Rattle.std.proofs.Common.{ℕ, ◌+◌, ◌-◌, ◌/◌, ◌<◌, ◌≤◌, Bool, ◌&&◌, not, List, Option, refl, arith}
 use Rattle.hl_media.specs.History.{History}
 use Rattle.hl_log.specs.Logs.{OnlyReads}
-use Rattle.hl_placed.specs.Blocks.{PlacedFile}
 use Rattle.hl_placed.specs.Calls.{serials}
 use Rattle.hl_placed.specs.Changes.{covers, meets}
 use Rattle.hl_store.specs.Values.{StoreValue}
 use Rattle.hl_store.specs.Finding.{ReadsNodes}
-use Rattle.hl_store.proofs.ReadRuns.{reads_then, rose_since}
+use Rattle.hl_store.proofs.ReadRuns.{rose_since}
 use Rattle.hl_ranges.specs.declared.needs.Needed.{Needed}
 use Rattle.hl_ranges.specs.declared.needs.Needed.TheVariants as needed
-use Rattle.hl_ranges.specs.Files.{OfFile}
 use Rattle.hl_ranges.specs.Needs.{FindsNeeds, FindsPicked}
 use Rattle.hl_ranges.proofs.MeetLemmas.{covers-between, meets-before, meets-behind, meets-empty, partly-none, partly-not}
 use Rattle.hl_ranges.proofs.SerialLists.{unpicked}

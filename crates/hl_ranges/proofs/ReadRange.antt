@@ -1,10 +1,8 @@
 -- A read of a range, part by part.
-use Rattle.std.proofs.Common.{◌≡◌, ℕ, ◌+◌, ◌-◌, ◌≤◌, List, [], ◌++◌, length, take, Option, refl, sym, ◌∙◌, ap, append_assoc, arith, min}
+use Rattle.std.proofs.Common.{◌≡◌, ℕ, ◌+◌, ◌≤◌, List, [], ◌++◌, length, take, Option, sym, ◌∙◌, ap, append_assoc, arith, min}
 use Rattle.std.proofs.lemmas.List.{append-nil, take-append-le, take_all}
 use Rattle.hl_media.specs.History.{History}
 use Rattle.hl_log.specs.Logs.{OnlyReads}
-use Rattle.hl_tree.specs.Contents.{read_at}
-use Rattle.hl_placed.specs.Blocks.{PlacedFile, Shelf, plain_bytes}
 use Rattle.hl_store.specs.Values.{StoreValue}
 use Rattle.hl_store.specs.Finding.{ReadsNodes}
 use Rattle.hl_store.proofs.ReadRuns.{reads_none, reads_then, rose_since}

@@ -15,7 +15,7 @@ use Rattle.hl_overlaid.specs.NodesNow.{old_block}
 use Rattle.hl_store.specs.Values.{StoreValue, layout}
 use Rattle.hl_store.specs.Lying.{LiesOver}
 use Rattle.hl_store.specs.Shapes.{IsNumber}
-use Rattle.hl_store.specs.Finding.{BlockNow, IsInLine, KeepsNodes, OverNow, ReadsNodes}
+use Rattle.hl_store.specs.Finding.{BlockNow, KeepsNodes, ReadsNodes}
 use Rattle.hl_store.proofs.ReadRuns.{now_before}
 use Rattle.hl_ranges.specs.Files.{HasFile, LinesShow, OfFile}
 
@@ -23,16 +23,6 @@ module _ {M : Type 0} (history : M → Option History) where
   -- what is found of the block of a number is so of the block of the file that the number has
   pub of_block : (v : StoreValue M) (ino i : ℕ) (P : Block → Type 0) → BlockNow history v ino i (λ s block. P block) → OfFile history v ino (λ c shelf file. P (file_block file i))
   of_block v ino i P found = λ h e c lies shelf file lines has. subst (λ (o : Option FlatNode). P (old_block o i)) has.has (found h e c lies)
-
-  -- what follows of each file from what holds of it
-  pub of_file_then : (v : StoreValue M) (ino : ℕ) (P Q : Contents → Shelf → PlacedFile → Type 0) → ((c : Contents) (shelf : Shelf) (file : PlacedFile) → P c shelf file → Q c shelf file)
-      → OfFile history v ino P → OfFile history v ino Q
-  of_file_then v ino P Q then holds = λ h e c lies shelf file lines has. then c shelf file (holds h e c lies shelf file lines has)
-
-  -- what follows of each file from two facts of it
-  pub of_file_both : (v : StoreValue M) (ino : ℕ) (P Q R : Contents → Shelf → PlacedFile → Type 0) → ((c : Contents) (shelf : Shelf) (file : PlacedFile) → P c shelf file → Q c shelf file → R c shelf file)
-      → OfFile history v ino P → OfFile history v ino Q → OfFile history v ino R
-  of_file_both v ino P Q R then one two = λ h e c lies shelf file lines has. then c shelf file (one h e c lies shelf file lines has) (two h e c lies shelf file lines has)
 
 module _ {M : Type 0} {history : M → Option History} where
   -- READS FROM ONE STORE TO ANOTHER
@@ -79,7 +69,7 @@ module _ {M : Type 0} {history : M → Option History} where
       keeps = λ h e c lies.
           let first = one.keeps h e c lies in
           let second = now_before (history old.log.machine) (history mid.log.machine)
-              (λ s. (c : Contents) → LiesOver mid c s → KeepsNodes mid new s c) machine.unchanged two.keeps h e c first.over in
+          (λ s. (c : Contents) → LiesOver mid c s → KeepsNodes mid new s c) machine.unchanged two.keeps h e c first.over in
           record { over = second.over; nodes = second.nodes ∙ first.nodes };
       drafted = λ q d less has. two.drafted q d (subst (λ (g : Layout). q < g.inodes) (sym (layout_then one)) less) (one.drafted q d less has);
       dirty = two.dirty ∙ one.dirty;

@@ -1,5 +1,5 @@
 -- The serials of the blocks below one.
-use Rattle.std.proofs.Common.{◌≡◌, ℕ, zero, suc, ◌+◌, ◌-◌, ◌<◌, ◌≤◌, Bool, true, false, List, [], ◌∷◌, ◌++◌, length, get_or, Option, Some, None, cond, refl, sym, ◌∙◌, ap, arith, append_assoc}
+use Rattle.std.proofs.Common.{◌≡◌, ℕ, zero, suc, ◌+◌, ◌-◌, ◌<◌, ◌≤◌, Bool, false, List, [], ◌∷◌, ◌++◌, length, Option, Some, None, refl, sym, ◌∙◌, ap, arith}
 use Rattle.std.proofs.Common.{inl, inr}
 use Rattle.std.proofs.lemmas.Bool.{cases_lt}
 use Rattle.std.specs.List.{filter_map, cons_option, range_with_len}
@@ -65,9 +65,9 @@ module _ (picked : ℕ → Bool) (file : PlacedFile) where
   -- those below one from which on no block is picked are all
   pub serials-from_below : (n : ℕ) → ((k : ℕ) → n ≤ k → serial_at k ≡ None) → serials picked file ≡ serials_below n
   serials-from_below n none = elim (cases_lt n (length file.blocks)) as (λ _. serials picked file ≡ serials_below n) [
-      inl less ↦ serials_below-skip n (length file.blocks) (omega arith) (λ k low high. none k low)
+    | inl less ↦ serials_below-skip n (length file.blocks) (omega arith) (λ k low high. none k low)
     | inr ge ↦ sym (serials_below-skip (length file.blocks) n ge (λ k low high. serial_at-past k low))
-    ]
+  ]
 
   around : (n m serial : ℕ) → length file.blocks ≡ n + suc m → serial_at n ≡ Some serial → serials picked file ≡ serials_below n ++ serial ∷ serials_from (n + 1) m
   around n m serial long has =
@@ -78,9 +78,9 @@ module _ (picked : ℕ → Bool) (file : PlacedFile) where
   -- the serials before a block that has one, that, and those behind
   pub serials-around : (n serial : ℕ) → serial_at n ≡ Some serial → (behind : List ℕ) × (serials picked file ≡ serials_below n ++ serial ∷ behind)
   serials-around n serial has = elim (cases_lt n (length file.blocks)) as (λ _. (behind : List ℕ) × (serials picked file ≡ serials_below n ++ serial ∷ behind)) [
-      inl less ↦ (serials_from (n + 1) (length file.blocks - n - 1), around n (length file.blocks - n - 1) serial (omega arith) has)
+    | inl less ↦ (serials_from (n + 1) (length file.blocks - n - 1), around n (length file.blocks - n - 1) serial (omega arith) has)
     | inr past ↦ absurd (none-some serial (sym (serial_at-past n past) ∙ has))
-    ]
+  ]
 
 -- a block that isn't picked has no serial
 pub unpicked : (picked : ℕ → Bool) (file : PlacedFile) (k : ℕ) → picked k ≡ false → serial_at picked file k ≡ None

@@ -1,7 +1,6 @@
 use Rattle.std.proofs.Common.{◌≡◌, true, is_some, not, subst, ap, ◌∙◌}
 use Rattle.hl_lines.specs.Lines.{line_with}
 use Rattle.hl_lines.specs.LineTable.{Lines}
-use Rattle.hl_overlaid.specs.NodesNow.{old_block}
 use Rattle.hl_ranges.proofs.NeedSteps.{adds_away}
 use Rattle.hl_ranges.proofs.needs.add_need.Goals as goal
 

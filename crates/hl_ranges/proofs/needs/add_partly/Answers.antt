@@ -1,4 +1,4 @@
-use Rattle.std.proofs.Common.{◌≡◌, ◌+◌, ◌*◌, true, false, ◌&&◌, not, sym, ◌∙◌, arith}
+use Rattle.std.proofs.Common.{◌&&◌, not, sym, ◌∙◌}
 use Rattle.hl_placed.specs.Changes.{covers, meets}
 use Rattle.hl_ranges.proofs.MeetLemmas.{partly-is, partly-not}
 use Rattle.hl_ranges.proofs.NeedRuns.{finds_picked, finds_unpicked}

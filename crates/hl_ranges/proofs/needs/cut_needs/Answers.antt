@@ -1,4 +1,4 @@
-use Rattle.std.proofs.Common.{◌≡◌, ℕ, ◌<◌, ◌≤◌, arith, subst, sym}
+use Rattle.std.proofs.Common.{ℕ, ◌<◌, ◌≤◌, subst}
 use Rattle.hl_store.proofs.ReadRuns.{reads_then}
 use Rattle.hl_ranges.proofs.CutRuns.{cut_found, cut_none, cuts-over, cuts-whole}
 use Rattle.hl_ranges.proofs.NeedsThen.{size_found}

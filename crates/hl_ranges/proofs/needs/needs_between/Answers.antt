@@ -1,4 +1,4 @@
-use Rattle.std.proofs.Common.{◌≡◌, ◌+◌, ◌-◌, ◌*◌, ◌/◌, ◌<◌, ◌≤◌, ℕ, arith, true}
+use Rattle.std.proofs.Common.{◌≡◌, ◌/◌, arith, true}
 use Rattle.hl_placed.specs.Changes.{meets}
 use Rattle.hl_ranges.proofs.MeetLemmas.{meets-before, meets-behind, meets-empty, meets-inside}
 use Rattle.hl_ranges.proofs.SerialLists.{unpicked}

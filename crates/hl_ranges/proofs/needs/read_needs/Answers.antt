@@ -1,4 +1,4 @@
-use Rattle.std.proofs.Common.{◌≡◌, ℕ, ◌+◌, List, min, ap, ◌∙◌}
+use Rattle.std.proofs.Common.{◌≡◌, ℕ, ◌+◌, min, ap, ◌∙◌}
 use Rattle.hl_placed.specs.Blocks.{PlacedFile}
 use Rattle.hl_placed.specs.Calls as calls
 use Rattle.hl_placed.specs.Calls.{serials}

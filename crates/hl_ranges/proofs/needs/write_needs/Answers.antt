@@ -1,5 +1,4 @@
-use Rattle.std.proofs.Common.{◌≡◌, ◌+◌, ◌-◌, ◌/◌, ◌≤◌, ◌<◌, List, ℕ, length, arith, sym, subst}
-use Rattle.hl_store.specs.Values.{StoreValue}
+use Rattle.std.proofs.Common.{◌+◌, ◌-◌, ◌/◌, ◌≤◌, ℕ, length, arith, sym, subst}
 use Rattle.hl_store.proofs.ReadRuns.{reads_then}
 use Rattle.hl_ranges.proofs.NeedRuns.{NeedsSoFar}
 use Rattle.hl_ranges.proofs.PartlyRuns.{partly, partly_all, partly_empty, partly_first, partly_found, partly_last, partly_missing, partly_more}
@@ -23,11 +22,11 @@ returns-in-Missing-clause-needs g c =
 pub returns-then-last-first-clause-needs : goal.returns-then-last-first-clause-needs
 returns-then-last-first-clause-needs g c =
     let run = partly_more g.M.Machine.history g.M.Machine.blocks g.M.Machine.faults g.M.Machine.write_faults g.M.Machine.say_faults
-        c.args.store.now c.args.ino c.args.at (c.args.at + length c.args.bytes.now) c.args.tsegs.now.items
-        c.args.store.now c.add_partly.new.store c.args.tsegs.now.items c.add_partly.new.tsegs.items (c.args.at / 4096)
-        (partly_first g.M.Machine.history g.M.Machine.blocks g.M.Machine.faults g.M.Machine.write_faults g.M.Machine.say_faults
-        c.args.store.now c.args.ino c.args.at (c.args.at + length c.args.bytes.now) c.args.tsegs.now.items)
-        c.in-AtHand.ensures.need c.in-AtHand.ensures.reads c.in-AtHand.ensures.machine in
+    c.args.store.now c.args.ino c.args.at (c.args.at + length c.args.bytes.now) c.args.tsegs.now.items
+    c.args.store.now c.add_partly.new.store c.args.tsegs.now.items c.add_partly.new.tsegs.items (c.args.at / 4096)
+    (partly_first g.M.Machine.history g.M.Machine.blocks g.M.Machine.faults g.M.Machine.write_faults g.M.Machine.say_faults
+    c.args.store.now c.args.ino c.args.at (c.args.at + length c.args.bytes.now) c.args.tsegs.now.items)
+    c.in-AtHand.ensures.need c.in-AtHand.ensures.reads c.in-AtHand.ensures.machine in
     partly_all g.M.Machine.history g.M.Machine.blocks g.M.Machine.faults g.M.Machine.write_faults g.M.Machine.say_faults
     c.args.store.now c.args.ino c.args.at (c.args.at + length c.args.bytes.now) c.args.tsegs.now.items
     c.add_partly.new.store c.add_partly.new.store c.add_partly.new.tsegs.items c.if-end-at.false
@@ -39,11 +38,11 @@ returns-then-last-first-clause-needs g c =
 pub returns-clause-needs : goal.returns-clause-needs
 returns-clause-needs g c =
     let run = partly_more g.M.Machine.history g.M.Machine.blocks g.M.Machine.faults g.M.Machine.write_faults g.M.Machine.say_faults
-        c.args.store.now c.args.ino c.args.at (c.args.at + length c.args.bytes.now) c.args.tsegs.now.items
-        c.args.store.now c.add_partly.new.store c.args.tsegs.now.items c.add_partly.new.tsegs.items (c.args.at / 4096)
-        (partly_first g.M.Machine.history g.M.Machine.blocks g.M.Machine.faults g.M.Machine.write_faults g.M.Machine.say_faults
-        c.args.store.now c.args.ino c.args.at (c.args.at + length c.args.bytes.now) c.args.tsegs.now.items)
-        c.in-AtHand.ensures.need c.in-AtHand.ensures.reads c.in-AtHand.ensures.machine in
+    c.args.store.now c.args.ino c.args.at (c.args.at + length c.args.bytes.now) c.args.tsegs.now.items
+    c.args.store.now c.add_partly.new.store c.args.tsegs.now.items c.add_partly.new.tsegs.items (c.args.at / 4096)
+    (partly_first g.M.Machine.history g.M.Machine.blocks g.M.Machine.faults g.M.Machine.write_faults g.M.Machine.say_faults
+    c.args.store.now c.args.ino c.args.at (c.args.at + length c.args.bytes.now) c.args.tsegs.now.items)
+    c.in-AtHand.ensures.need c.in-AtHand.ensures.reads c.in-AtHand.ensures.machine in
     let less : c.args.at / 4096 + 1 ≤ (c.args.at + length c.args.bytes.now - 1) / 4096 = omega (arith, c.if-last-first.false) in
     partly_found g.M.Machine.history g.M.Machine.blocks g.M.Machine.faults g.M.Machine.write_faults g.M.Machine.say_faults
     c.args.store.now c.args.ino c.args.at (c.args.at + length c.args.bytes.now) c.args.tsegs.now.items

@@ -1,4 +1,4 @@
-use Rattle.std.proofs.Common.{◌≡◌, ℕ, ◌+◌, ◌-◌, ◌*◌, ◌/◌, ◌≤◌, ◌<◌, length, ◌∙◌, arith, sym, ap}
+use Rattle.std.proofs.Common.{◌≤◌, length, ◌∙◌, arith, ap}
 use Rattle.hl_store.proofs.ReadRuns.{reads_then, rose_since}
 use Rattle.hl_ranges.proofs.ReadRange.{cut_back, read_none, so_far_done, so_far_part, so_far_start}
 use Rattle.hl_ranges.proofs.ReadSteps.{number_then, reads_nodes_then}
@@ -24,7 +24,7 @@ read_part-requires-clause-number g c = number_then c.parts.invariant.run.reads c
 pub returns-in-DiskFault-clause-part : goal.returns-in-DiskFault-clause-part
 returns-in-DiskFault-clause-part g c = (
   c.truncate.ensures.items ∙ cut_back c.args.out.now.items c.parts.invariant.run.own c.read_part.new.out.items (length c.as_slice-before.result.now) (c.in-DiskFault.ensures.part.0 ∙ c.parts.invariant.run.is) c.parts.invariant.long,
-  rose_since _ _ _ c.parts.invariant.run.machine.faults_most c.in-DiskFault.ensures.part.1
+  rose_since _ _ _ c.parts.invariant.run.machine.faults_most c.in-DiskFault.ensures.part.1,
 )
 
 pub returns-in-DiskFault-clause-reads : goal.returns-in-DiskFault-clause-reads
