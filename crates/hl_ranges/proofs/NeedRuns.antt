@@ -23,10 +23,12 @@ module _ {M : Type 0} {history : M → Option History} {old mid : StoreValue M} 
   adds_before before tsegs (Away serial position) adds =
       (adds.0, adds.1, record { holds = holds_before reads adds.0 serial adds.2.holds; line = adds.2.line; held = line_before reads adds.0 (Some adds.2.line) adds.2.held })
 
+  -- so does a block that may be picked
   pub picked_before : (picks : Bool) (before tsegs : List ℕ) (block : Block) → AddsPicked mid picks before tsegs block → AddsPicked old picks before tsegs block
   picked_before true before tsegs block adds = adds_before before tsegs block adds
   picked_before false before tsegs block adds = adds
 
+  -- a block whose segment no line held, no line held before
   pub out_before : (tseg : ℕ) (block : Block) → IsOutIn mid tseg block → IsOutIn old tseg block
   out_before tseg Hole out = out
   out_before tseg (Here bytes) out = out
@@ -55,9 +57,11 @@ pub record NeedsSoFar {M : Type 0} (history : M → Option History) (blocks faul
   pub hands : OfFile history old ino (λ c shelf file. HasBelow old (picked file) file before tsegs n)
 
 module _ {M : Type 0} (history : M → Option History) (blocks faults write_faults say_faults : M → ℕ) (old : StoreValue M) (ino : ℕ) (picked : PlacedFile → ℕ → Bool) (before : List ℕ) where
+  -- a run from the first store
   abbrev SoFar : StoreValue M → List ℕ → ℕ → Type 0
   SoFar mid tsegs n = NeedsSoFar history blocks faults write_faults say_faults old mid ino picked before tsegs n
 
+  -- nothing is found yet
   pub so_far_none : SoFar old before 0
   so_far_none = record {
     reads = reads_nodes_none;

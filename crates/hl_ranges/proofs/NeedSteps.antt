@@ -70,6 +70,7 @@ module _ {M : Type 0} where
       AreAtHand-append v own (adds.0 ∷ []) (serials_below picked file n) (serial ∷ []) hands (adds.2, tt),
     )
 
+    -- so the slots go on by those of block n
     pub has_more : (tsegs new : List ℕ) (n : ℕ) (picks : Bool) → picked n ≡ picks → AddsPicked v picks tsegs new (file_block file n) → HasBelow v picked file before tsegs n → HasBelow v picked file before new (n + 1)
     has_more tsegs new n picks is adds has =
         let next = more tsegs new n picks (file_block file n) adds has.0 has.1 has.2 in
@@ -81,6 +82,7 @@ module _ {M : Type 0} where
     first tseg n (Here bytes) out = absurd out
     first tseg n (Away serial position) out = (serial, refl, record { holds = out.holds; none = out.none })
 
+    -- so its segment is the first of all that is missing
     pub misses_first : (tsegs : List ℕ) (tseg n : ℕ) → picked n ≡ true → IsOutIn v tseg (file_block file n) → HasBelow v picked file before tsegs n → IsFirstMissing v tseg (serials picked file)
     misses_first tsegs tseg n is out has =
         let missing = first tseg n (file_block file n) out in

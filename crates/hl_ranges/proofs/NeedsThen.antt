@@ -29,6 +29,7 @@ module _ {M : Type 0} (history : M → Option History) (v : StoreValue M) (ino :
       one.is.size ∙ ap (λ (n : FlatNode). n.content.size) (same_Some one.n (file_node file) (sym one.has ∙ has.has))
 
 module _ {M : Type 0} {history : M → Option History} {old mid : StoreValue M} (reads : ReadsNodes history old mid) where
+  -- the slots that are at hand by a store that was read are so by the store before
   at_hand_before : (tsegs serials : List ℕ) → AreAtHand mid tsegs serials → AreAtHand old tsegs serials
   at_hand_before [] [] hands = tt
   at_hand_before [] (serial ∷ serials) hands = absurd hands
@@ -38,6 +39,7 @@ module _ {M : Type 0} {history : M → Option History} {old mid : StoreValue M} 
     at_hand_before tsegs serials hands.1,
   )
 
+  -- so is the first that is missing
   missing_before : (tseg : ℕ) (serials : List ℕ) → IsFirstMissing mid tseg serials → IsFirstMissing old tseg serials
   missing_before tseg serials is = record {
     before = is.before;

@@ -19,6 +19,7 @@ abbrev pub partly : ℕ → ℕ → ℕ → Bool
 partly at end k = meets at end k && not (covers at end k)
 
 module _ {M : Type 0} (history : M → Option History) (blocks faults write_faults say_faults : M → ℕ) (old : StoreValue M) (ino at end : ℕ) (before : List ℕ) where
+  -- a run from the first store
   abbrev Partly : StoreValue M → List ℕ → ℕ → Type 0
   Partly mid tsegs n = NeedsSoFar history blocks faults write_faults say_faults old mid ino (λ file. partly at end) before tsegs n
 

@@ -16,6 +16,7 @@ use Rattle.hl_ranges.specs.Reading.{bytes_between, file_byte}
 use Rattle.hl_ranges.proofs.ReadSteps.{of_block}
 use Rattle.hl_ranges.proofs.SerialLists.{range-plus}
 
+-- each of the zeros
 zeros_at : (n k : ℕ) → k < n → get_or (zeros n) k 0 ≡ 0
 unfolding zeros
 zeros_at n k less = get_or-replicate n k 0 0 less
@@ -28,10 +29,12 @@ hole_found history v ino i out are found = λ h e c lies shelf file lines has k 
     ∙ sym (ap (λ (block : Block). byte_of shelf block k) (of_block history v ino i (λ block. block ≡ Hole) found h e c lies shelf file lines has))
 
 module _ (shelf : Shelf) (file : PlacedFile) where
+  -- how many bytes a range has
   pub length-between : (from to : ℕ) → length (bytes_between shelf file from to) ≡ to - from
   unfolding bytes_between
   length-between from to = length-map-range_with_len (file_byte shelf file) from (to - from)
 
+  -- byte k of a range
   pub get_or-between : (from to k : ℕ) → from + k < to → get_or (bytes_between shelf file from to) k 0 ≡ file_byte shelf file (from + k)
   unfolding bytes_between
   get_or-between from to k less = get_or-map-range_with_len (file_byte shelf file) from (to - from) k (from + k) 0 (omega arith) refl
@@ -68,6 +71,7 @@ module _ (shelf : Shelf) (file : PlacedFile) where
       ∙ place from k in_block
       ∙ sym (get_or-between from to k (omega arith)))
     where
+      -- where byte k of the part stands in the file
       place : (from k : ℕ) → from % 4096 + k < 4096 → byte_of shelf (file_block file (from / 4096)) (from % 4096 + k) ≡ file_byte shelf file (from + k)
       place from k less =
           let one : from / 4096 ≡ (from + k) / 4096 = omega arith in

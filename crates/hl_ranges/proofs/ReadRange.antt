@@ -29,6 +29,7 @@ cut_back before own out n is long =
     ap (take n) is ∙ ap (λ (k : ℕ). take k (before ++ own)) long ∙ take-append-le (length before) before own (omega arith) ∙ take_all (length before) before (omega arith)
 
 module _ {M : Type 0} (history : M → Option History) (blocks faults write_faults say_faults : M → ℕ) (old : StoreValue M) (ino at : ℕ) (before : List ℕ) where
+  -- a read from the first store
   abbrev SoFar : StoreValue M → ℕ → List ℕ → Type 0
   SoFar mid from out = ReadSoFar history blocks faults write_faults say_faults old mid ino at from before out
 
@@ -36,6 +37,7 @@ module _ {M : Type 0} (history : M → Option History) (blocks faults write_faul
   pub read_none : (to : ℕ) → to ≤ at → ReadsPart history faults old old ino at to before before step.Done
   read_none to le = ([], sym (append-nil before), λ h e c lies shelf file lines has. sym (between-none shelf file at to le))
 
+  -- nothing is read yet
   pub so_far_start : (out : List ℕ) → out ≡ before → SoFar old at out
   so_far_start out same =
       record {

@@ -27,6 +27,7 @@ module _ {M : Type 0} (history : M → Option History) where
 module _ {M : Type 0} {history : M → Option History} where
   -- READS FROM ONE STORE TO ANOTHER
   module _ {old mid : StoreValue M} (reads : ReadsNodes history old mid) where
+    -- of the same site
     pub layout_then : layout mid ≡ layout old
     layout_then = ap (λ (x : StoreValue M). layout x) reads.same
 
@@ -34,9 +35,11 @@ module _ {M : Type 0} {history : M → Option History} where
     pub number_then : {ino : ℕ} → IsNumber old ino → IsNumber mid ino
     number_then {ino} is = record { low = is.low; high = subst (λ (g : Layout). ino < g.inodes) (sym layout_then) is.high }
 
+    -- what a slot holds it held
     pub holds_before : (tseg serial : ℕ) → HoldsSerial (slot_at mid.tables.slots tseg) serial → HoldsSerial (slot_at old.tables.slots tseg) serial
     holds_before tseg serial holds = subst (λ (x : StoreValue M). HoldsSerial (slot_at x.tables.slots tseg) serial) reads.same holds
 
+    -- what line has a segment had it
     pub line_before : (tseg : ℕ) (line : Option ℕ) → line_with mid.lines.states tseg ≡ line → line_with old.lines.states tseg ≡ line
     line_before tseg line held = subst (λ (x : StoreValue M). line_with x.lines.states tseg ≡ line) reads.same held
 

@@ -36,6 +36,7 @@ module _ (picked : ℕ → Bool) (file : PlacedFile) where
   abbrev pub serials_below : ℕ → List ℕ
   serials_below n = serials_from 0 n
 
+  -- the serials of m blocks, and of the n behind
   pub serials_from-plus : (a m n : ℕ) → serials_from a (m + n) ≡ serials_from a m ++ serials_from (a + m) n
   serials_from-plus a m n = ap (filter_map serial_at) (range-plus a m n) ∙ filter_map-append serial_at (range_with_len a m) (range_with_len (a + m) n)
 
@@ -69,6 +70,7 @@ module _ (picked : ℕ → Bool) (file : PlacedFile) where
     | inr ge ↦ sym (serials_below-skip (length file.blocks) n ge (λ k low high. serial_at-past k low))
   ]
 
+  -- a block within the file has blocks before and behind
   around : (n m serial : ℕ) → length file.blocks ≡ n + suc m → serial_at n ≡ Some serial → serials picked file ≡ serials_below n ++ serial ∷ serials_from (n + 1) m
   around n m serial long has =
       let e : 0 + n ≡ n = omega arith in
