@@ -1,0 +1,4 @@
+pub mod Files
+pub mod Needs
+pub mod Ranges
+pub mod Reading
