@@ -1,3 +1,4 @@
 pub mod Files
 pub mod Needs
 pub mod Ranges
+pub mod Writing
