@@ -116,7 +116,7 @@ fn put_part(i: u32, at: u64, bytes: &[u8], block: &mut [u8])
     ensures part { PutsPart i at bytes.now block.old block.new }
     ensures size { length block.new ≡ 4096 }
 {
-    let start = u64::from(i) * BLOCK_BYTES;
+    let start = i as u64 * BLOCK_BYTES;
     let end = at + bytes.len() as u64;
     let from = at.max(start);
     let to = end.min(start + BLOCK_BYTES);
@@ -156,7 +156,7 @@ fn read_new<M: Machine>(
 fn covers(at: u64, end: u64, i: u32) -> bool
     ensures { result ≡ covers at end i }
 {
-    let start = u64::from(i) * BLOCK_BYTES;
+    let start = i as u64 * BLOCK_BYTES;
     at <= start && start + BLOCK_BYTES <= end
 }
 
@@ -242,9 +242,9 @@ fn put_one<M: Machine>(
 {
     let end = at + bytes.len() as u64;
     if covers(at, end, i) {
-        let from = (u64::from(i) * BLOCK_BYTES - at) as usize;
+        let from = (i as u64 * BLOCK_BYTES - at) as usize;
         store.put(ino, i, &bytes[from..from + BLOCK]);
-    } else if u64::from(i) == at / BLOCK_BYTES {
+    } else if i as u64 == at / BLOCK_BYTES {
         store.put(ino, i, front);
     } else {
         store.put(ino, i, back);
