@@ -73,6 +73,11 @@ module _ {M : Type 0} where
   abbrev pub ReadsNew : (M → Option History) → StoreValue M → ℕ → ℕ → List ℕ → ℕ → List ℕ → Type 0
   ReadsNew history v ino at bytes i new = OfFile history v ino (λ c shelf file. new ≡ padded_block (written (plain_bytes shelf file) at bytes) i)
 
+  -- so are these, unless the bytes cover the block
+  abbrev pub ReadsSide : (M → Option History) → StoreValue M → ℕ → ℕ → List ℕ → ℕ → List ℕ → Type 0
+  ReadsSide history v ino at bytes i new = OfFile history v ino (λ c shelf file. covers at (at + length bytes) i ≡ false
+      → new ≡ padded_block (written (plain_bytes shelf file) at bytes) i)
+
   -- so are those of each block that the write touches
   abbrev pub ReadsEdges : (M → Option History) → StoreValue M → ℕ → ℕ → List ℕ → List ℕ → List ℕ → Type 0
   ReadsEdges history v ino at bytes front back = OfFile history v ino (λ c shelf file. (i : ℕ) → at < 4096 * i + 4096 → 4096 * i < at + length bytes

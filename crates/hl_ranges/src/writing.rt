@@ -9,7 +9,7 @@ ghost use Rattle.hl_store.specs.Shapes.{IsNumber};
 ghost use Rattle.hl_store.specs.Finding.{ReadsNodes};
 ghost use Rattle.hl_store.specs.Changes.{Always, PutsInto};
 ghost use Rattle.hl_ranges.specs.Ranges.{MakesChange};
-ghost use Rattle.hl_ranges.specs.Writing.{CutsEdge, FindsSize, IsDraftedFile, PutsPart, ReadsEdge, ReadsEdges, ReadsNew};
+ghost use Rattle.hl_ranges.specs.Writing.{CutsEdge, FindsSize, IsDraftedFile, PutsPart, ReadsEdge, ReadsEdges, ReadsNew, ReadsSide};
 ghost use Rattle.hl_ranges.specs.Writing.{IsWithin, MakesCut, MakesWritten, Stops, new_block};
 
 use crate::ranges::{BLOCK_BYTES, RangeStep};
@@ -160,6 +160,34 @@ fn covers(at: u64, end: u64, i: u32) -> bool
     at <= start && start + BLOCK_BYTES <= end
 }
 
+/// Reads a block that bytes touch, unless they cover it, and puts those that lie in it into it.
+fn read_side<M: Machine>(
+    store: &mut Store<M>,
+    alloc: Global,
+    ino: u32,
+    i: u32,
+    at: u64,
+    bytes: &[u8],
+    out: &mut [u8],
+) -> Result<(), RangeStep>
+    requires number { IsNumber store.old ino }
+    requires begins { at < 4096 * i + 4096 }
+    requires ends { 4096 * i < at + length bytes.now }
+    requires within { at + length bytes.now ≤ 4243456 }
+    requires size { length out.old ≡ 4096 }
+    ensures block { OnOk result (ReadsSide M.history store.old ino at bytes.now i out.new) }
+    ensures size { length out.new ≡ 4096 }
+    ensures stops { IfErr result (Stops M.faults store.old store.new) }
+    ensures reads { ReadsNodes M.history store.old store.new }
+    ensures machine { OnlyReads M.history M.blocks M.faults M.write_faults M.say_faults
+        store.old.log.machine store.new.log.machine }
+{
+    if covers(at, at + bytes.len() as u64, i) {
+        return Ok(());
+    }
+    read_new(store, alloc, ino, i, at, bytes, out)
+}
+
 /// Reads the first and the last block that bytes touch, where they don't cover them, and puts them into those.
 fn read_edges<M: Machine>(
     store: &mut Store<M>,
@@ -187,13 +215,11 @@ fn read_edges<M: Machine>(
     let end = at + bytes.len() as u64;
     let first = (at / BLOCK_BYTES) as u32;
     let last = ((end - 1) / BLOCK_BYTES) as u32;
-    if !covers(at, end, first) {
-        read_new(store, alloc, ino, first, at, bytes, front)?;
+    read_side(store, alloc, ino, first, at, bytes, front)?;
+    if first == last {
+        return Ok(());
     }
-    if first < last && !covers(at, end, last) {
-        read_new(store, alloc, ino, last, at, bytes, back)?;
-    }
-    Ok(())
+    read_side(store, alloc, ino, last, at, bytes, back)
 }
 
 /// Brings a file to where it can be changed, with room for so many new blocks.
