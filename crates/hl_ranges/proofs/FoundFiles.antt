@@ -1,21 +1,24 @@
 -- What reads find of a file.
-use Rattle.std.proofs.Common.{arith, ◌≡◌, ℕ, ◌+◌, ◌*◌, ◌/◌, ◌<◌, ◌≤◌, Bool, true, false, ◌&&◌, not, List, ◌++◌, length, get_or, replicate, option_map, Option, Some, refl, ◌∙◌, ap, sym, subst}
+use Rattle.std.proofs.Common.{arith, ◌≡◌, ℕ, ◌+◌, ◌-◌, ◌*◌, ◌/◌, ◌<◌, ◌≤◌, Bool, true, false, ◌&&◌, not, List, ◌++◌, length, get_or, replicate, option_map, Option, Some, Result, Ok, Err, refl, ◌∙◌, ap, sym, subst}
+use Rattle.std.specs.Result.{OnOk}
 use Rattle.std.specs.FinMap.{get}
 use Rattle.std.proofs.lemmas.List.{get_or-replicate}
 use Rattle.hl_media.specs.History.{History, MachineState, state_now, with_calls}
 use Rattle.hl_media.specs.Moments.{Now, Runs}
-use Rattle.hl_media.proofs.Runs.{ends_of_run}
+use Rattle.hl_media.proofs.Runs.{ends_of_run, goes_on}
 use Rattle.hl_log.specs.Rest.{IsUnchanged}
 use Rattle.hl_bytes.specs.Fields.{zeros}
 use Rattle.hl_inode.specs.declared.inode.Kind.TheVariants as kinds
 use Rattle.hl_placed.specs.Blocks.{Away, Block, Here, Hole, IsPlacedFile, PlacedFile, Shelf, byte_of, file_block, is_hole, padded_block, plain_bytes}
+use Rattle.hl_placed.specs.Changes.{covers}
+use Rattle.hl_tree.specs.Contents.{written}
 use Rattle.hl_paths.specs.Nodes.{FlatNode}
 use Rattle.hl_nodes.specs.Contents.{Contents}
 use Rattle.hl_overlay.specs.declared.draft.NodeDraft.{NodeDraft}
 use Rattle.hl_overlay.specs.DraftTables.{draft_of}
 use Rattle.hl_overlaid.specs.NodesNow.{old_block, with_node}
 use Rattle.hl_overlaid.proofs.NowLemmas.{one, same_nodes, with_node-other, with_node-same}
-use Rattle.hl_log.specs.Logs.{with_machine}
+use Rattle.hl_log.specs.Logs.{OnlyReads, with_machine}
 use Rattle.hl_store.specs.declared.answers.Node.{Node}
 use Rattle.hl_store.specs.Values.{StoreValue, dirty_of, layout, nodes_of}
 use Rattle.hl_store.specs.Lying.{LiesOver, block_of_number}
@@ -25,8 +28,14 @@ use Rattle.hl_overlaid.proofs.PutLemmas.{mapped}
 use Rattle.hl_store.specs.Shapes.{IsNumber}
 use Rattle.hl_store.specs.Changes.{IsDraftedAs, drafted_shape}
 use Rattle.hl_ranges.specs.Files.{HasFile, LinesShow, OfFile, file_node}
-use Rattle.hl_ranges.specs.Writing.{FindsSize, IsOldBlock, ReadsEdge}
+use Rattle.hl_ranges.specs.Writing.{FindsSize, IsOldBlock, ReadsEdge, ReadsEdges, ReadsSide}
 use Rattle.hl_ranges.proofs.WrittenBlocks.{block_is}
+use Rattle.hl_ranges.proofs.NewBlocks.{new_is}
+
+-- what an Ok says, said otherwise
+pub on_ok : {A E : Type 0} (P Q : Type 0) (r : Result A E) → (P → Q) → OnOk r P → OnOk r Q
+on_ok P Q (Ok x) so is = so is
+on_ok P Q (Err e) so is = is
 
 -- what holds behind reads held before them
 pub now_before : (before now : Option History) (P : MachineState → Type 0) → Runs before now IsUnchanged → Now now P → Now before P
@@ -34,6 +43,22 @@ now_before before now P run holds h e =
     let h' : History = record { opening = h.opening; calls = h.calls ++ run.calls } in
     let told : now ≡ Some h' = run.is ∙ ap (with_calls run.calls) e in
     subst P (ends_of_run before now IsUnchanged run h e h' told) (holds h' told)
+
+-- a run of reads, and then another
+pub unchanged_then : (before middle now : Option History) → Runs before middle IsUnchanged → Runs middle now IsUnchanged → Runs before now IsUnchanged
+unchanged_then before middle now run more = goes_on before middle now IsUnchanged IsUnchanged IsUnchanged run (ends_of_run before middle IsUnchanged run) more (λ first mid s same later. later ∙ same)
+
+module _ {M : Type 0} {history : M → Option History} {blocks faults write_faults say_faults : M → ℕ} where
+  -- reads, and then reads
+  pub reads_then : (before middle now : M) → OnlyReads history blocks faults write_faults say_faults before middle → OnlyReads history blocks faults write_faults say_faults middle now
+      → OnlyReads history blocks faults write_faults say_faults before now
+  reads_then before middle now run more = record {
+    unchanged = unchanged_then (history before) (history middle) (history now) run.unchanged more.unchanged;
+    blocks_same = more.blocks_same ∙ run.blocks_same;
+    faults_most = omega (arith, run.faults_most, more.faults_most);
+    write_faults_same = more.write_faults_same ∙ run.write_faults_same;
+    say_faults_same = more.say_faults_same ∙ run.say_faults_same;
+  }
 
 module _ {M : Type 0} where
   module _ (history : M → Option History) (old new : StoreValue M) (reads : ReadsNodes history old new) where
@@ -142,3 +167,15 @@ module _ {M : Type 0} where
           is = block_is shelf file i out has.placed size (λ k lt. ap (λ bs. get_or bs k 0) found.0 ∙ get_or-replicate 4096 k 0 0 lt ∙ ap (λ b. byte_of shelf b k) (sym hole));
           own = ap (λ b. not (is_hole b)) (sym hole);
         }
+
+  -- THE EDGES ARE READ, the one behind the other
+  module _ (history : M → Option History) (old mid : StoreValue M) (ino at : ℕ) (bytes front back : List ℕ) (some : 0 < length bytes) (one_side : ReadsSide history old ino at bytes (at / 4096) front) where
+    pub edges_of_one : at / 4096 ≡ (at + length bytes - 1) / 4096 → ReadsEdges history old ino at bytes front back
+    edges_of_one same h told c lies shelf file shows has =
+        new_is at bytes front back (plain_bytes shelf file) some (one_side h told c lies shelf file shows has) (λ lt. absurd (omega arith))
+
+    pub edges_of_two : ReadsNodes history old mid → Runs (history old.log.machine) (history mid.log.machine) IsUnchanged → ReadsSide history mid ino at bytes ((at + length bytes - 1) / 4096) back → ReadsEdges history old ino at bytes front back
+    edges_of_two reads run other h told c lies shelf file shows has =
+        new_is at bytes front back (plain_bytes shelf file) some (one_side h told c lies shelf file shows has) (λ lt.
+        of_file_before history old mid reads ino (λ c shelf file. covers at (at + length bytes) ((at + length bytes - 1) / 4096) ≡ false → back ≡ padded_block (written (plain_bytes shelf file) at bytes) ((at + length bytes - 1) / 4096)) run other
+            h told c lies shelf file shows has)
