@@ -308,7 +308,7 @@ fn put_written<M: Machine>(
     let first = (at / BLOCK_BYTES) as u32;
     let end = at + bytes.len() as u64;
     let last = ((end - 1) / BLOCK_BYTES) as u32;
-    'blocks: for i in first..last + 1 {
+    'touched: for i in first..last + 1 {
         put_one(store, ino, i, at, bytes, front, back);
     }
 }
