@@ -1,5 +1,5 @@
 -- Files with some blocks put.
-use Rattle.std.proofs.Common.{arith, ◌≡◌, ◌≢◌, ◌⊎◌, ℕ, ◌+◌, ◌*◌, ◌/◌, ◌%◌, ◌<◌, ◌≤◌, Bool, true, false, ◌&&◌, not, nat_lt, nat_le, List, length, get_or, max, inl, inr, Option, Some, refl, ◌∙◌, ap, sym, subst, if◌then◌else◌}
+use Rattle.std.proofs.Common.{arith, ◌≡◌, ◌≢◌, ◌⊎◌, ℕ, ◌+◌, ◌*◌, ◌/◌, ◌%◌, ◌<◌, ◌≤◌, Bool, true, false, true≢false, ◌&&◌, not, nat_lt, nat_le, List, length, get_or, max, inl, inr, Option, Some, refl, ◌∙◌, ap, sym, subst, if◌then◌else◌}
 use Rattle.std.specs.Prelude.{slice_set}
 use Rattle.std.proofs.lemmas.Bool.{cases_eq, cases_lt}
 use Rattle.std.proofs.lemmas.Bool.Decides.{nat_tests}
@@ -131,3 +131,97 @@ patched_written shelf file size at bytes now new some size_is are =
           ap (λ b. if b then Here (new j) else old_block was j) (below first end j low)
           ∙ ap (λ b. if b then Here (padded_block w j) else file_block file j) (sym (untouched_low at (at + length bytes) (4096 * j) before))
     ]))
+
+-- whether a block is cut
+never : (size file_size : ℕ) (x y : Bool) → file_size ≤ size → ((nat_lt size file_size && x) && y) ≡ false
+never size file_size x y le = grind (arith, nat_tests)
+
+ends_even : (start size : ℕ) (a x y : Bool) → size ≤ start → ((a && (nat_lt start size && x)) && y) ≡ false
+ends_even start size true x y le = grind (arith, nat_tests)
+ends_even start size false x y le = refl
+
+ends_before : (start size : ℕ) (a x y : Bool) → start + 4096 ≤ size → ((a && (x && nat_lt size (start + 4096))) && y) ≡ false
+ends_before start size false x y le = refl
+ends_before start size true false y le = refl
+ends_before start size true true y le = grind (arith, nat_tests)
+
+ends_inside : (start size file_size : ℕ) (y : Bool) → size < file_size → start < size → size < start + 4096 → ((nat_lt size file_size && (nat_lt start size && nat_lt size (start + 4096))) && y) ≡ y
+ends_inside start size file_size true a b c = grind (arith, nat_tests)
+ends_inside start size file_size false a b c = grind (arith, nat_tests)
+
+module _ (shelf : Shelf) (file : PlacedFile) (size : ℕ) (edge : List ℕ) where
+  -- none is of a file that doesn't shrink, or where it ends at the end of a block
+  pub none_cut : (file.size ≤ size) ⊎ (size % 4096 ≡ 0) → IsCutBlock shelf file size edge false
+  unfolding ends_within
+  none_cut why = record {
+    cut = sym (elim why as (λ _. (cuts file size (size / 4096) && not (is_hole (file_block file (size / 4096)))) ≡ false) [
+      | inl long ↦ never size file.size (nat_lt (4096 * (size / 4096)) size && nat_lt size (4096 * (size / 4096) + 4096)) (not (is_hole (file_block file (size / 4096)))) long
+      | inr even ↦
+          let le : size ≤ 4096 * (size / 4096) = omega arith in
+          ends_even (4096 * (size / 4096)) size (nat_lt size file.size) (nat_lt size (4096 * (size / 4096) + 4096)) (not (is_hole (file_block file (size / 4096)))) le
+    ]);
+    is = λ e. absurd (true≢false (sym e));
+  }
+
+  -- else the block in which it ends is, if it is no hole
+  pub some_cut : (is_own : Bool) → size < file.size → 0 < size % 4096 → is_own ≡ not (is_hole (file_block file (size / 4096))) → edge ≡ padded_block (resized (plain_bytes shelf file) size) (size / 4096) → IsCutBlock shelf file size edge is_own
+  unfolding ends_within
+  some_cut is_own short within own edge_is = record {
+    cut = (
+        let low : 4096 * (size / 4096) < size = omega arith in
+        let high : size < 4096 * (size / 4096) + 4096 = omega arith in
+        own ∙ sym (ends_inside (4096 * (size / 4096)) size file.size (not (is_hole (file_block file (size / 4096)))) short low high));
+    is = λ e. edge_is;
+  }
+
+  -- no other block is
+  other_kept : (j : ℕ) → j ≢ size / 4096 → (cuts file size j && not (is_hole (file_block file j))) ≡ false
+  unfolding ends_within
+  other_kept j ne = elim (cases_lt j (size / 4096)) as (λ _. (cuts file size j && not (is_hole (file_block file j))) ≡ false) [
+    | inl lt ↦
+        let le : 4096 * j + 4096 ≤ size = omega arith in
+        ends_before (4096 * j) size (nat_lt size file.size) (nat_lt (4096 * j) size) (not (is_hole (file_block file j))) le
+    | inr ge ↦
+        let le : size ≤ 4096 * j = omega arith in
+        ends_even (4096 * j) size (nat_lt size file.size) (nat_lt size (4096 * j + 4096)) (not (is_hole (file_block file j))) le
+  ]
+
+  -- A FILE CUT is one with that block put
+  pub patched_cut : (now : ℕ) (is_cut : Bool) → IsCutBlock shelf file size edge is_cut → patched size now (size / 4096) (if is_cut then size / 4096 + 1 else size / 4096) (λ j. edge) (Some (file_node file)) ≡ file_node (cut_file shelf file size now)
+  unfolding patched cut_file rewritten
+  patched_cut now is_cut is =
+      ap (λ n. of_blocks n now (listed (blocks_of n) (block_put (size / 4096) (if is_cut then size / 4096 + 1 else size / 4096) (λ j. edge) (Some (file_node file))))) (sym (length-resized (plain_bytes shelf file) size))
+      ∙ ap (of_blocks (length (resized (plain_bytes shelf file) size)) now) (listed_same (block_put (size / 4096) (if is_cut then size / 4096 + 1 else size / 4096) (λ j. edge) (Some (file_node file)))
+          (λ j. if cuts file size j && not (is_hole (file_block file j)) then Here (padded_block (resized (plain_bytes shelf file) size) j) else file_block file j) (blocks_of (length (resized (plain_bytes shelf file) size)))
+          (λ j lt. by is_cut refl j (cases_eq j (size / 4096))))
+    where
+      kept : (end j : ℕ) → j ≢ size / 4096 → (j < size / 4096) ⊎ (end ≤ j) → block_put (size / 4096) end (λ j. edge) (Some (file_node file)) j
+          ≡ (if cuts file size j && not (is_hole (file_block file j)) then Here (padded_block (resized (plain_bytes shelf file) size) j) else file_block file j)
+      kept end j ne out = elim out as (λ _. block_put (size / 4096) end (λ j. edge) (Some (file_node file)) j ≡ (if cuts file size j && not (is_hole (file_block file j)) then Here (padded_block (resized (plain_bytes shelf file) size) j) else file_block file j)) [
+        | inl lt ↦ ap (λ b. if b then Here edge else file_block file j) (below (size / 4096) end j lt) ∙ ap (λ b. if b then Here (padded_block (resized (plain_bytes shelf file) size) j) else file_block file j) (sym (other_kept j ne))
+        | inr ge ↦ ap (λ b. if b then Here edge else file_block file j) (past (size / 4096) end j ge) ∙ ap (λ b. if b then Here (padded_block (resized (plain_bytes shelf file) size) j) else file_block file j) (sym (other_kept j ne))
+      ]
+
+      out_of : (j : ℕ) → j ≢ size / 4096 → (j < size / 4096) ⊎ (size / 4096 + 1 ≤ j)
+      out_of j ne = elim (cases_lt j (size / 4096)) as (λ _. (j < size / 4096) ⊎ (size / 4096 + 1 ≤ j)) [
+        | inl lt ↦ inl lt
+        | inr ge ↦ inr (omega arith)
+      ]
+
+      out_too : (j : ℕ) → (j < size / 4096) ⊎ (size / 4096 ≤ j)
+      out_too j = cases_lt j (size / 4096)
+
+      by : (b : Bool) → is_cut ≡ b → (j : ℕ) → (j ≡ size / 4096) ⊎ (j ≢ size / 4096) → block_put (size / 4096) (if b then size / 4096 + 1 else size / 4096) (λ j. edge) (Some (file_node file)) j
+          ≡ (if cuts file size j && not (is_hole (file_block file j)) then Here (padded_block (resized (plain_bytes shelf file) size) j) else file_block file j)
+      by true e j (inl at) =
+          let low : size / 4096 ≤ j = omega arith in
+          let high : j < size / 4096 + 1 = omega arith in
+          ap (λ b. if b then Here edge else file_block file j) (inside (size / 4096) (size / 4096 + 1) j low high)
+          ∙ ap Here (is.is e ∙ ap (padded_block (resized (plain_bytes shelf file) size)) (sym at))
+          ∙ ap (λ b. if b then Here (padded_block (resized (plain_bytes shelf file) size) j) else file_block file j) (sym e ∙ is.cut ∙ ap (λ i. cuts file size i && not (is_hole (file_block file i))) (sym at))
+      by true e j (inr ne) = kept (size / 4096 + 1) j ne (out_of j ne)
+      by false e j (inl at) =
+          let high : size / 4096 ≤ j = omega arith in
+          ap (λ b. if b then Here edge else file_block file j) (past (size / 4096) (size / 4096) j high)
+          ∙ ap (λ b. if b then Here (padded_block (resized (plain_bytes shelf file) size) j) else file_block file j) (sym e ∙ is.cut ∙ ap (λ i. cuts file size i && not (is_hole (file_block file i))) (sym at))
+      by false e j (inr ne) = kept (size / 4096) j ne (out_too j)
