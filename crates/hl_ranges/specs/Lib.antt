@@ -2,3 +2,4 @@ pub mod Files
 pub mod Needs
 pub mod Ranges
 pub mod Reading
+pub mod Writing

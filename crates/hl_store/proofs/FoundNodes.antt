@@ -26,6 +26,7 @@ use Rattle.hl_overlaid.proofs.PutLemmas.{mapped, mapped_none}
 use Rattle.hl_store.specs.Values.{StoreValue, layout, nodes_of, overlaid}
 use Rattle.hl_store.specs.Lying.{LiesOver, block_of_number}
 use Rattle.hl_store.specs.Finding.{HasNodeFound, KeepsNodes, OverNow}
+use Rattle.hl_store.specs.Changes.{IsDraftedAs}
 use Rattle.hl_store.specs.Seats.{Seats}
 
 -- what is something is there
@@ -140,3 +141,13 @@ module _ {M : Type 0} (history : M → Option History) (old new : StoreValue M) 
 
   pub none_found_in : (t : StoreValue M) → t ≡ new → (d : NodeDraft) → Some d ≡ draft_of t.overlay.drafts ino → d.shape ≡ None → OverNow history old (λ s c. get (nodes_of old c) ino ≡ None)
   none_found_in t is_new d at is = none_found d (ap (λ (v : StoreValue M). draft_of v.overlay.drafts ino) (sym is_new) ∙ sym at) is
+
+  -- the draft that was opened is of what was found
+  pub drafted_in : (t : StoreValue M) → t ≡ new → (d : NodeDraft) (shape : Shape) (used : ℕ) → Some d ≡ draft_of t.overlay.drafts ino → d.shape ≡ Some shape
+      → IsDraftedAs new ino (record { kind = shape.kind; size = shape.size; used = used })
+  drafted_in t is_new d shape used at is =
+      let at_new : draft_of new.overlay.drafts ino ≡ Some d = ap (λ (v : StoreValue M). draft_of v.overlay.drafts ino) (sym is_new) ∙ sym at in
+      record {
+        shape = ap (option_map (λ (x : NodeDraft). x.shape)) at_new ∙ ap Some is;
+        size = (is_draft_of new.overlay.drafts ino d seats.whole.table at_new).size shape is;
+      }

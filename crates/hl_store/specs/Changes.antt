@@ -18,6 +18,8 @@ use Rattle.hl_overlay.specs.DraftTables.{draft_of}
 use Rattle.hl_overlaid.specs.NodesNow.{with_node}
 use Rattle.hl_overlaid.specs.Changes.{HasNoChangedDraft, IsChangedDraft, KeepsOtherUses, KeepsSerial, node_used, reshaped, with_block}
 use Rattle.hl_store.specs.declared.answers.Node.{Node}
+use Rattle.hl_store.specs.declared.answers.NodeFound.{NodeFound}
+use Rattle.hl_store.specs.declared.answers.NodeFound.TheVariants as node
 use Rattle.hl_store.specs.declared.answers.Prepared.{Prepared}
 use Rattle.hl_store.specs.declared.answers.Prepared.TheVariants as prepared
 use Rattle.hl_store.specs.Values.{StoreValue, layout, nodes_of, overlaid}
@@ -36,6 +38,18 @@ module _ {M : Type 0} where
   -- what the draft of a number is to be; none where the number isn't drafted
   abbrev pub drafted_shape : StoreValue M → ℕ → Option (Option Shape)
   drafted_shape v ino = option_map (λ d. d.shape) (draft_of v.overlay.drafts ino)
+
+  -- a number is drafted as a node of this kind and size, which a node may have
+  pub record IsDraftedAs (v : StoreValue M) (ino : ℕ) (n : Node) : Type 0 where
+    pub shape : drafted_shape v ino ≡ Some (Some (shape_of n))
+    pub size : n.size ≤ 4243456
+
+  -- a number whose node was found is drafted as that
+  abbrev pub DraftsFound : StoreValue M → ℕ → NodeFound → Type 0
+  DraftsFound v ino (node.Node n) = IsDraftedAs v ino n
+  DraftsFound v ino node.Unused = Unit {0}
+  DraftsFound v ino node.DiskFault = Unit {0}
+  DraftsFound v ino node.Memory = Unit {0}
 
   -- each other number is drafted as it was
   abbrev pub KeepsOtherShapes : StoreValue M → StoreValue M → ℕ → Type 0

@@ -79,6 +79,7 @@ impl<M: Machine> Store<M> {
         requires size { node.now.size ≤ 4243456 }
         ensures shape { Reshapes self.old self.new ino node.now.used (Some (shape_of node.now)) }
         ensures uses { self.new.uses ≡ slice_set self.old.uses ino node.now.used }
+        ensures used { slice_index self.new.uses ino ≡ node.now.used }
     {
         self.drop_from(ino, blocks_of(node.size));
         self.touch(ino, node.used);

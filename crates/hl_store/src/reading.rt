@@ -4,6 +4,7 @@ ghost use Rattle.std.specs.Prelude.{◌≡◌, ◌<◌, ◌≤◌, OnOk, OnErr, 
 ghost use Rattle.hl_log.specs.Logs.{OnlyReads, with_machine};
 ghost use Rattle.hl_store.specs.Shapes.{IsNumber};
 ghost use Rattle.hl_store.specs.Finding.{FindsBlock, FindsNode, FindsPlace, ReadsNodes};
+ghost use Rattle.hl_store.specs.Changes.{DraftsFound};
 ghost use Rattle.hl_store.specs.Reading.{FindsAt, IsWhereFound};
 
 use crate::answers::{Found, Node, NodeFound, Placed, Trouble};
@@ -64,6 +65,7 @@ impl<M: Machine> Store<M> {
     pub fn node(&mut self, alloc: Global, ino: u32) -> NodeFound
         requires number { IsNumber self.old ino }
         ensures found { FindsNode M.history M.faults self.old self.new ino result }
+        ensures drafted { DraftsFound self.new ino result }
         ensures reads { ReadsNodes M.history self.old self.new }
         ensures machine { OnlyReads M.history M.blocks M.faults M.write_faults M.say_faults
             self.old.log.machine self.new.log.machine }
