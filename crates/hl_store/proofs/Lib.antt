@@ -7,7 +7,7 @@ mod DropSteps
 mod SegmentLemmas
 mod CountLemmas
 mod BlockSteps
-mod ReadRuns
+pub mod ReadRuns
 mod DraftReads
 mod SeatLemmas
 mod RunPairs
