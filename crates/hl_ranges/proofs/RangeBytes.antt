@@ -1,17 +1,19 @@
 -- The bytes of a range of a file.
-use Rattle.std.proofs.Common.{◌≡◌, ℕ, ◌+◌, ◌-◌, ◌*◌, ◌/◌, ◌%◌, ◌<◌, ◌≤◌, List, [], ◌++◌, length, get_or, map, take, drop, min, Option, refl, sym, ◌∙◌, ap, arith, length-drop}
+use Rattle.std.proofs.Common.{◌≡◌, ℕ, ◌+◌, ◌-◌, ◌*◌, ◌/◌, ◌%◌, ◌<◌, ◌≤◌, List, [], ◌++◌, length, get_or, map, take, drop, min, Option, refl, sym, ◌∙◌, ap, arith, length-drop, subst}
 use Rattle.std.specs.List.{range_with_len}
 use Rattle.std.proofs.lemmas.Grind.{same_number_lists}
 use Rattle.std.proofs.lemmas.List.{get_or-drop, get_or-replicate, get_or-take, length-take, length-take-le, map-append}
 use Rattle.std.proofs.lemmas.List.FromFn.{get_or-map-range_with_len, length-map-range_with_len}
-use Rattle.hl_media.specs.History.{History}
+use Rattle.hl_media.specs.History.{History, MachineState, state_now}
 use Rattle.hl_bytes.specs.Fields.{zeros}
 use Rattle.hl_tree.specs.Contents.{read_at}
-use Rattle.hl_placed.specs.Blocks.{Block, Hole, PlacedFile, Shelf, byte_of, file_block, plain_bytes}
+use Rattle.hl_placed.specs.Blocks.{Away, Block, Here, Hole, PlacedFile, Shelf, byte_of, file_block, plain_bytes}
 use Rattle.hl_placed.proofs.Changes.{length-plain_bytes, within-plain_bytes}
+use Rattle.hl_paths.specs.Nodes.{FlatNode}
+use Rattle.hl_overlaid.specs.NodesNow.{old_block}
 use Rattle.hl_store.specs.Values.{StoreValue}
-use Rattle.hl_store.specs.Finding.{BlockNow}
-use Rattle.hl_ranges.specs.Files.{OfFile}
+use Rattle.hl_store.specs.Finding.{BlockNow, HasBytes}
+use Rattle.hl_ranges.specs.Files.{LinesShow, OfFile}
 use Rattle.hl_ranges.specs.Reading.{bytes_between, file_byte}
 use Rattle.hl_ranges.proofs.ReadSteps.{of_block}
 use Rattle.hl_ranges.proofs.SerialLists.{range-plus}
@@ -27,6 +29,20 @@ pub hole_found : {M : Type 0} (history : M → Option History) (v : StoreValue M
 hole_found history v ino i out are found = λ h e c lies shelf file lines has k less.
     ap (λ (xs : List ℕ). get_or xs k 0) are ∙ zeros_at 4096 k less
     ∙ sym (ap (λ (block : Block). byte_of shelf block k) (of_block history v ino i (λ block. block ≡ Hole) found h e c lies shelf file lines has))
+
+-- the bytes that were found of a block are those that the shelf has of it
+shown : {M : Type 0} (v : StoreValue M) (s : MachineState) (shelf : Shelf) (bytes : List ℕ) → LinesShow v s shelf → (block : Block) → HasBytes v s block bytes
+    → (k : ℕ) → k < 4096 → get_or bytes k 0 ≡ byte_of shelf block k
+shown v s shelf bytes lines Hole has k less = absurd has
+shown v s shelf bytes lines (Here own) has k less = ap (λ (xs : List ℕ). get_or xs k 0) (sym has)
+shown v s shelf bytes lines (Away serial position) has k less = lines serial position bytes has k less
+
+-- and so of the file's
+pub bytes_found : {M : Type 0} (history : M → Option History) (v : StoreValue M) (ino i : ℕ) (out : List ℕ) → BlockNow history v ino i (λ s block. HasBytes v s block out)
+    → OfFile history v ino (λ c shelf file. (k : ℕ) → k < 4096 → get_or out k 0 ≡ byte_of shelf (file_block file i) k)
+bytes_found history v ino i out found = λ h e c lies shelf file lines has.
+    shown v (state_now h) shelf out lines (file_block file i)
+    (subst (λ (o : Option FlatNode). HasBytes v (state_now h) (old_block o i) out) has.has (found h e c lies))
 
 module _ (shelf : Shelf) (file : PlacedFile) where
   -- how many bytes a range has
