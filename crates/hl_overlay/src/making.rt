@@ -1,10 +1,10 @@
 //! The unit that makes the drafts those of every image.
 
-ghost use Rattle.std.specs.Prelude.{◌≡◌, ◌+◌, ◌<◌, ◌≤◌, All, OnOk, length};
+ghost use Rattle.std.specs.Prelude.{◌≡◌, ◌+◌, ◌<◌, ◌≤◌, All, OnErr, OnOk, length};
 ghost use Rattle.std.specs.Vec.{vec_capacity};
 ghost use Rattle.hl_inode.specs.Inodes.{HasRanges, Spells};
 ghost use Rattle.hl_overlay.specs.Drafting.{IsDraft, count_for};
-ghost use Rattle.hl_overlay.specs.DraftTables.{others_in, others_of};
+ghost use Rattle.hl_overlay.specs.DraftTables.{freed_of, others_in, others_of};
 ghost use Rattle.hl_overlay.specs.Making.{AddsAll, AddsOne, AddsPointerBlock, AreOnPlan, IsFreeing, IsInodeOf, IsOnPlan, IsPointerBlockOf, followed_by, resolved, used_of};
 
 use crate::draft::{NodeDraft, Shape};
@@ -170,9 +170,12 @@ impl Overlay {
     ghost use Rattle.hl_overlay.specs.MadeUnits.{IsMadeOf};
     ghost use Rattle.hl_overlay.specs.Overlays.{unit_blocks};
 
-    /// The numbers that the unit is to free, appended as table records.
+    /// The numbers that the unit is to free, appended as table records. It fails only where there was no room for them.
     pub fn push_freed(&self, changes: &mut Vec<TableRecord>) -> Result<(), AllocError>
-        ensures { OnOk result (IsFreeing self.now.drafts changes.old.items changes.new.items) }
+        ensures freed { OnOk result (IsFreeing self.now.drafts changes.old.items changes.new.items) }
+        ensures full { let freed = length (freed_of self.now.drafts.items) in
+            OnErr result (vec_capacity changes.old < length changes.old.items + freed) }
+        ensures capacity { vec_capacity changes.old ≤ vec_capacity changes.new }
     {
         'freed: for draft in self.drafts() {
             if draft.is_freed() {
