@@ -1,5 +1,5 @@
 -- A store as contracts see it.
-use Rattle.std.specs.Prelude.{◌≡◌, ℕ, ◌+◌, ◌≤◌, Bool, List, [], length}
+use Rattle.std.specs.Prelude.{◌≡◌, ℕ, ◌+◌, Bool, List, [], length}
 use Rattle.hl_addr.specs.Layout.{Layout}
 use Rattle.hl_bytes.specs.declared.records.TableRecord.{TableRecord}
 use Rattle.hl_lines.specs.LineTable.{Lines}
@@ -17,12 +17,6 @@ pub record Reserved : Type 0 where
   pub plan : ℕ
   pub changes : ℕ
   pub notes : ℕ
-
--- there is memory for as many
-pub record HasAsMuch (old new : Reserved) : Type 0 where
-  pub plan : old.plan ≤ new.plan
-  pub changes : old.changes ≤ new.changes
-  pub notes : old.notes ≤ new.notes
 
 -- The log; the tables, with the changes of slots and volumes that were made in them and that the next unit is to have; the
 -- drafts of nodes with their new blocks; the last use of each number; what is counted of the nodes; what each line of the
@@ -57,11 +51,6 @@ module _ {M : Type 0} where
   -- how much is dirty: the blocks of the next unit, and the numbers that it frees
   abbrev pub dirty_of : StoreValue M → ℕ
   dirty_of v = unit_blocks v.overlay + length (freed_of v.overlay.drafts.items)
-
-  -- nothing changed but for how much there is memory, and there is memory for as much as before
-  pub record KeepsButMemory (old new : StoreValue M) : Type 0 where
-    pub same : new ≡ record old { reserved = new.reserved }
-    pub much : HasAsMuch old.reserved new.reserved
 
   -- the next unit would have nothing
   abbrev pub IsTidy : StoreValue M → Type 0
