@@ -17,6 +17,7 @@ mod lines;
 mod live;
 mod noting;
 mod reading;
+mod reserving;
 mod seats;
 mod segments;
 mod store;
