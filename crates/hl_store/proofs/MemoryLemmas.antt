@@ -9,6 +9,7 @@ use Rattle.hl_overlay.specs.DraftTables.{freed_of, others_in}
 use Rattle.hl_overlay.specs.Overlays.{OverlayValue, unit_blocks}
 use Rattle.hl_overlay.proofs.CountLemmas.{count_most, freed_length, one_most}
 use Rattle.hl_overlaid.specs.Units.{unit_changes}
+use Rattle.hl_log.specs.Logs.{LogValue, with_machine}
 use Rattle.hl_media.specs.History.{MachineState}
 use Rattle.hl_nodes.specs.Contents.{Contents}
 use Rattle.hl_store.specs.Values.{Reserved, StoreValue}
@@ -140,3 +141,11 @@ module _ {M : Type 0} where
           now = reserved_now plan_fits changes_fit few_are;
           keeps = reserved_keeps;
         })))
+
+  -- a store whose machine was read lies over what it lay over, with the same nodes
+  pub read_keeps : (self t : StoreValue M) → t ≡ self → (l : LogValue M) → l ≡ with_machine t.log l.machine → KeepsEach self (record t { log = l })
+  read_keeps self t view_is l same = subst (λ (x : StoreValue M). KeepsEach x (record t { log = l })) view_is
+      (subst (λ (x : LogValue M). KeepsEach t (record t { log = x })) (sym same) (λ c s lies. record {
+        over = roomed_lies t l.machine t.overlay t.overlay.room refl c s lies;
+        nodes = roomed_nodes t l.machine t.overlay t.overlay.room refl c;
+      }))

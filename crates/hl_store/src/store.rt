@@ -1,6 +1,6 @@
 //! The store.
 
-ghost use Rattle.std.specs.Prelude.{◌≡◌, ◌+◌, ◌-◌, ◌<◌, ◌≤◌, ◌^◌, true, IfOk, IfErr, drop, length, replicate, slice_get, Some};
+ghost use Rattle.std.specs.Prelude.{◌≡◌, ◌+◌, ◌*◌, ◌-◌, ◌<◌, ◌≤◌, ◌^◌, true, IfOk, IfErr, drop, length, replicate, slice_get, Some};
 ghost use Rattle.hl_store.specs.Opening.{AreInUse};
 
 use crate::counts::Counts;
@@ -139,14 +139,31 @@ impl<M: Machine> Store<M> {
             → AreOfContents log parts c s → LiesOver store c s) }
         ensures back { IfErr result (λ refused. refused.1 ≡ log) }
     {
+        let Ok(buffer) = SegBuf::new(alloc, log.geometry().k) else {
+            return Err((AllocError, log));
+        };
+        Store::open_with(alloc, log, parts, buffer)
+    }
+
+    /// The same, with its unit buffer.
+    fn open_with(
+        alloc: Global,
+        log: Log<M>,
+        parts: StoreParts,
+        buffer: SegBuf,
+    ) -> Result<Store<M>, (AllocError, Log<M>)>
+        requires parts { AreParts log parts }
+        requires buffer { length buffer ≡ 4096 * log.geometry.k }
+        ensures opened { IfOk result (IsOpened log parts) }
+        ensures over { IfOk result (λ store. (c : Contents) (s : MachineState)
+            → AreOfContents log parts c s → LiesOver store c s) }
+        ensures back { IfErr result (λ refused. refused.1 ≡ log) }
+    {
         let inodes = log.geometry().inodes;
         let Ok(overlay) = Overlay::new(alloc, inodes) else {
             return Err((AllocError, log));
         };
         let Ok(flags) = vec![in alloc; true; inodes as usize] else {
-            return Err((AllocError, log));
-        };
-        let Ok(buffer) = SegBuf::new(alloc, log.geometry().k) else {
             return Err((AllocError, log));
         };
         let in_use = InUse::of(flags_of(&parts.tables, flags));
