@@ -3,7 +3,8 @@
 //!
 //! `Store::node`, `block` and `place` find what the nodes have now. `prepare` brings a node to where it can be changed;
 //! from then on `put`, `set_away`, `set_node` and `free` take no memory and can't fail. `flush` makes the nodes those of
-//! every image that a stop may leave, and `release` lets go what is only kept to be read again.
+//! every image that a stop may leave, and `release` lets go what is only kept to be read again. After `reserve` neither the
+//! next flush nor so many notes are refused for memory. `take_buf` and `give_buf` hand the unit buffer out and back.
 #![tactic(auto)]
 
 mod answers;

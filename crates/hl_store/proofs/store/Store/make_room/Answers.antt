@@ -7,13 +7,13 @@ use Rattle.hl_store.proofs.store.Store.make_room.Goals as goal
 pub returns-in_err-take_memory-clause-err : goal.returns-in_err-take_memory-clause-err
 returns-in_err-take_memory-clause-err g c =
     let kept = notes_kept {M = g.row.M.Denot} c.args.self.now _ c.self.view_is (record { plan = vec_capacity c.take_memory.new.plan; changes = vec_capacity c.take_memory.new.changes; notes = vec_capacity c.take_memory.new.notes })
-        (record { plan = c.in_err-take_memory.ensures.much_plan; changes = c.in_err-take_memory.ensures.much_changes; notes = c.in_err-take_memory.ensures.much_notes }) c.take_memory.new.notes.items c.in_err-take_memory.ensures.same_notes c.self.inside.overlay refl in
+    (record { plan = c.in_err-take_memory.ensures.much_plan; changes = c.in_err-take_memory.ensures.much_changes; notes = c.in_err-take_memory.ensures.much_notes }) c.take_memory.new.notes.items c.in_err-take_memory.ensures.same_notes c.self.inside.overlay refl in
     search rules
 
 pub returns-in_err-reserve-clause-err : goal.returns-in_err-reserve-clause-err
 returns-in_err-reserve-clause-err g c =
     let kept = notes_kept {M = g.row.M.Denot} c.args.self.now _ c.self.view_is (record { plan = vec_capacity c.take_memory.new.plan; changes = vec_capacity c.take_memory.new.changes; notes = vec_capacity c.take_memory.new.notes })
-        (record { plan = c.in_ok-take_memory.ensures.much_plan; changes = c.in_ok-take_memory.ensures.much_changes; notes = c.in_ok-take_memory.ensures.much_notes }) c.take_memory.new.notes.items c.in_ok-take_memory.ensures.same_notes c.reserve.new.self c.in_err-reserve.ensures.err in
+    (record { plan = c.in_ok-take_memory.ensures.much_plan; changes = c.in_ok-take_memory.ensures.much_changes; notes = c.in_ok-take_memory.ensures.much_notes }) c.take_memory.new.notes.items c.in_ok-take_memory.ensures.same_notes c.reserve.new.self c.in_err-reserve.ensures.err in
     search rules
 
 pub returns-clause-ok : goal.returns-clause-ok

@@ -25,5 +25,5 @@ pub returns-in_err-push-clause-err : goal.returns-in_err-push-clause-err
 returns-in_err-push-clause-err g c =
     let full : vec_capacity c.self.inside.notes ≤ length c.self.inside.notes.items = (let f = c.in_err-push.ensures.full in omega arith) in
     let refused = note_refused {M = g.row.M.Denot} c.args.self.now _ c.self.view_is full (record { plan = vec_capacity c.self.inside.plan; changes = vec_capacity c.self.inside.changes; notes = vec_capacity c.push.new.self })
-        (record { plan = omega arith; changes = omega arith; notes = c.in_err-push.ensures.capacity }) c.push.new.self.items c.in_err-push.ensures.items in
+    (record { plan = omega arith; changes = omega arith; notes = c.in_err-push.ensures.capacity }) c.push.new.self.items c.in_err-push.ensures.items in
     search rules

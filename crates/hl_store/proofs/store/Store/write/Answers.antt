@@ -29,7 +29,7 @@ returns-in_err-planned-clause-crash g c =
 pub returns-in_err-planned-clause-err : goal.returns-in_err-planned-clause-err
 returns-in_err-planned-clause-err g c =
     let refused = writing.plan_refused {M = g.row.M.Denot} c.args.self.now _ c.self.view_is _ c.unit_blocks-blocks.ensures.value c.in_err-planned.ensures.full
-        (record { plan = vec_capacity c.put_plan.new.plan; changes = vec_capacity c.self.inside.changes; notes = vec_capacity c.self.inside.notes }) (record { plan = c.in_err-planned.ensures.capacity; changes = omega arith; notes = omega arith }) in
+    (record { plan = vec_capacity c.put_plan.new.plan; changes = vec_capacity c.self.inside.changes; notes = vec_capacity c.self.inside.notes }) (record { plan = c.in_err-planned.ensures.capacity; changes = omega arith; notes = omega arith }) in
     search rules
 
 pub returns-then-not-planned-clause-crash : goal.returns-then-not-planned-clause-crash
