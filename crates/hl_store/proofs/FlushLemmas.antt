@@ -1,52 +1,44 @@
 -- What the unit of a store leaves at each moment, and behind it.
-use Rattle.std.proofs.Common.{◌≡◌, ◌≢◌, ◌⊎◌, inl, inr, ⊎_elim, ℕ, ◌+◌, ◌<◌, ◌≤◌, ◌^◌, All, true, List, [], ◌∷◌, ◌++◌, drop, length, length-append, map, Option, Some, slice_index, refl, sym, ◌∙◌, ap, subst, arith}
-use Rattle.std.specs.List.{fold}
+use Rattle.std.proofs.Common.{◌≡◌, ◌⊎◌, inl, inr, ℕ, ◌+◌, All, List, [], ◌∷◌, length, Option, slice_index, refl, sym, ◌∙◌, ap, subst, arith}
 use Rattle.std.proofs.lemmas.List.{length-map}
 use Rattle.std.proofs.lemmas.List.Elements.{All-weaker}
 use Rattle.std.proofs.lemmas.List.Sums.{sum_by-cons}
-use Rattle.hl_media.specs.History.{History, Image, MachineState, MayLeave}
-use Rattle.hl_media.specs.Moments.{Ends, Now, Runs}
+use Rattle.hl_media.specs.History.{History, Image, MachineState}
+use Rattle.hl_media.specs.Moments.{Runs}
 use Rattle.hl_addr.specs.Layout.{Layout}
 use Rattle.hl_bytes.specs.declared.block.Block.{Block}
 use Rattle.hl_bytes.specs.declared.records.BlockRecord.{BlockRecord}
-use Rattle.hl_bytes.specs.declared.records.TableRecord.{TableRecord}
-use Rattle.hl_image.specs.Chance.{NoChance}
 use Rattle.hl_image.specs.declared.place.LogPlace.{LogPlace}
 use Rattle.hl_log.specs.declared.piece.Piece.{Piece}
-use Rattle.hl_log.specs.declared.position.Position.{Position}
-use Rattle.hl_log.specs.Cut.{AreCut, Goes, IsPlan, addresses, place_behind}
+use Rattle.hl_log.specs.Cut.{AreCut, Goes, addresses, place_behind}
 use Rattle.hl_log.specs.Free.{AreClean}
-use Rattle.hl_log.specs.Logs.{LogValue}
-use Rattle.hl_log.specs.Rest.{Keeps, StopLeaves}
-use Rattle.hl_log.specs.Units.{Brought, HasWritten, Numbered, WritesUnit, moved}
+use Rattle.hl_log.specs.Units.{Brought, Numbered, WritesUnit}
 use Rattle.hl_log.proofs.Cleans.{beside_first}
 use Rattle.hl_log.proofs.Wraps.{runs_map}
 use Rattle.hl_overlay.specs.Overlays.{IsWholeOverlay, unit_blocks}
 use Rattle.hl_overlay.specs.declared.draft.NodeDraft.{NodeDraft}
-use Rattle.hl_overlay.specs.DraftTables.{freed_of, others_in}
+use Rattle.hl_overlay.specs.DraftTables.{others_in}
 use Rattle.hl_overlay.specs.Drafting.{count_for}
 use Rattle.hl_overlay.specs.Making.{AddsAll}
 use Rattle.hl_overlay.proofs.MakingLemmas.{brings}
-use Rattle.hl_paths.specs.Nodes.{Nodes}
-use Rattle.hl_nodes.specs.Contents.{Contents, HasContents, Rests, next_tertiary}
-use Rattle.hl_nodes.specs.Fates.{Changes}
+use Rattle.hl_nodes.specs.Contents.{Contents, next_tertiary}
 use Rattle.hl_nodes.specs.Listing.{HoldsListed, MovesListed}
 use Rattle.hl_nodes.specs.Moments.{IsSoundUnitOf, IsUnitOf, MovesSound}
-use Rattle.hl_nodes.specs.Sound.{AreSlots, HasSound, KeepsSound, head_of}
-use Rattle.hl_nodes.specs.Units.{Makes, after_unit, unit_laid}
+use Rattle.hl_nodes.specs.Sound.{AreSlots, HasSound, KeepsSound}
+use Rattle.hl_nodes.specs.Units.{Makes, after_unit}
 use Rattle.hl_nodes.proofs.Determined.{one_contents}
 use Rattle.hl_nodes.proofs.FateLaws.{fates_make}
 use Rattle.hl_nodes.proofs.ListingLaws.{unit_moves_listed}
 use Rattle.hl_nodes.proofs.MomentLaws.{unit_moves_sound}
 use Rattle.hl_nodes.proofs.UnitLaws.{closed}
-use Rattle.hl_overlaid.specs.NodesNow.{IsOverlaid, nodes_now}
+use Rattle.hl_overlaid.specs.NodesNow.{IsOverlaid}
 use Rattle.hl_overlaid.specs.Units.{IsOfSlots, IsUnitNow, brought_by, unit_changes}
 use Rattle.hl_overlaid.proofs.UnitMakes.{makes_now, slots_now}
 use Rattle.hl_overlaid.proofs.SerialLemmas.{serial_now}
 use Rattle.hl_store.specs.Values.{StoreValue, layout, nodes_of, overlaid}
 use Rattle.hl_store.specs.Shapes.{IsNoteOf, IsShaped}
 use Rattle.hl_store.specs.Lying.{LiesOver}
-use Rattle.hl_store.specs.Flushes.{Flushes, Holds, HoldsEither, HoldsNow, MayLast}
+use Rattle.hl_store.specs.Flushes.{Flushes, HoldsEither, MayLast}
 use Rattle.hl_store.proofs.RunPairs.{runs_both}
 use Rattle.hl_store.proofs.SiteRecords.{unit_of_site}
 

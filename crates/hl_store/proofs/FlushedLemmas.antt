@@ -1,17 +1,14 @@
 -- A store behind the unit that it wrote.
-use Rattle.std.proofs.Common.{◌≡◌, ℕ, ◌≤◌, List, [], drop, filter, length, map, Option, refl, sym, ◌∙◌, ap, subst}
+use Rattle.std.proofs.Common.{◌≡◌, ℕ, List, [], drop, filter, length, map, Option, refl, sym, ◌∙◌, ap, subst}
 use Rattle.std.specs.List.{fold}
 use Rattle.hl_media.specs.History.{History, MachineState}
 use Rattle.hl_media.specs.Moments.{Ends}
-use Rattle.hl_addr.specs.Layout.{Layout}
 use Rattle.hl_bytes.specs.declared.block.Block.{Block}
 use Rattle.hl_bytes.specs.declared.records.BlockRecord.{BlockRecord}
 use Rattle.hl_log.specs.declared.piece.Piece.{Piece}
 use Rattle.hl_log.specs.declared.position.Position.{Position}
 use Rattle.hl_log.specs.Cut.{AreCut, addresses}
-use Rattle.hl_log.specs.Logs.{LogValue}
 use Rattle.hl_log.specs.Units.{HasWritten, moved}
-use Rattle.hl_super.specs.declared.record.Record.{Record}
 use Rattle.hl_tables.specs.Values.{TableValues}
 use Rattle.hl_tables.specs.Laying.{changed}
 use Rattle.hl_nodes.specs.Contents.{Contents}
@@ -24,7 +21,7 @@ use Rattle.hl_nodes.proofs.MomentLaws.{unit_moved, unit_moved_sound}
 use Rattle.hl_overlay.specs.declared.draft.NodeDraft.{NodeDraft}
 use Rattle.hl_overlay.specs.Drafting.{is_freed}
 use Rattle.hl_overlay.specs.DraftTables.{freed_of}
-use Rattle.hl_overlay.specs.Overlays.{IsEmpty, IsWholeOverlay, OverlayValue, unit_blocks}
+use Rattle.hl_overlay.specs.Overlays.{IsWholeOverlay, OverlayValue, unit_blocks}
 use Rattle.hl_overlay.specs.Making.{AddsAll}
 use Rattle.hl_overlaid.specs.Units.{unit_changes}
 use Rattle.hl_overlaid.proofs.BehindLemmas.{behind_over, laid_noted, notes-inodes, placed-inodes}
@@ -32,7 +29,7 @@ use Rattle.hl_overlaid.proofs.UnitTables.{freed-placed, nowhere, own_record}
 use Rattle.hl_tally.specs.Tally.{IsTally}
 use Rattle.hl_tally.specs.Counting.{added, unit_counted}
 use Rattle.hl_tally.proofs.WrittenLaws.{written_tally}
-use Rattle.hl_store.specs.Values.{IsTidy, Reserved, StoreValue, layout, nodes_of, overlaid}
+use Rattle.hl_store.specs.Values.{Reserved, StoreValue, layout, nodes_of, overlaid}
 use Rattle.hl_store.specs.Shapes.{IsShaped}
 use Rattle.hl_store.specs.Lying.{LiesOver}
 use Rattle.hl_store.specs.Flushes.{FlushesAll, HasFlushed, MayLast}

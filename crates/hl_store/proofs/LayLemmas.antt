@@ -1,14 +1,10 @@
 -- A unit laid over the tables, one block or one freed number more at a time.
-use Rattle.std.proofs.Common.{◌≡◌, ◌≢◌, ℕ, zero, suc, ◌+◌, ◌<◌, ◌==◌, true, false, Bool, List, [], ◌∷◌, ◌++◌, take, get_or, map, length, slice_index, ap, sym, ◌∙◌, arith, refl, filter, if◌then◌else◌, subst}
-use Rattle.std.specs.List.{fold}
+use Rattle.std.proofs.Common.{◌≡◌, ℕ, zero, suc, ◌+◌, ◌<◌, ◌==◌, true, false, Bool, List, [], ◌∷◌, take, get_or, length, slice_index, ap, sym, ◌∙◌, arith, refl, if◌then◌else◌, subst}
 use Rattle.hl_bytes.specs.declared.block.Block.{Block}
 use Rattle.hl_bytes.specs.declared.records.BlockRecord.{BlockRecord}
 use Rattle.hl_tables.specs.Values.{SameShape, TableValues}
 use Rattle.hl_tables.proofs.Laid.{same_shape-then}
 use Rattle.hl_tables.specs.Laying.{block_laid, with_inode}
-use Rattle.hl_overlay.specs.declared.draft.NodeDraft.{NodeDraft}
-use Rattle.hl_overlay.specs.Drafting.{is_freed}
-use Rattle.hl_overlay.specs.DraftTables.{freed_of, freed_record}
 use Rattle.hl_nodes.specs.Units.{blocks_placed}
 use Rattle.hl_store.specs.Writing.{records_of}
 

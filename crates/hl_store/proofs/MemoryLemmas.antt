@@ -6,15 +6,12 @@ use Rattle.hl_bytes.specs.declared.records.TableRecord.{TableRecord}
 use Rattle.hl_overlay.specs.declared.draft.NodeDraft.{NodeDraft}
 use Rattle.hl_overlay.specs.Drafting.{count_for, is_freed}
 use Rattle.hl_overlay.specs.DraftTables.{freed_of, others_in}
-use Rattle.hl_overlay.specs.Overlays.{OverlayValue, unit_blocks}
+use Rattle.hl_overlay.specs.Overlays.{OverlayValue}
 use Rattle.hl_overlay.proofs.CountLemmas.{count_most, freed_length, one_most}
 use Rattle.hl_overlaid.specs.Units.{unit_changes}
 use Rattle.hl_log.specs.Logs.{LogValue, with_machine}
-use Rattle.hl_media.specs.History.{MachineState}
-use Rattle.hl_nodes.specs.Contents.{Contents}
 use Rattle.hl_store.specs.Values.{Reserved, StoreValue}
 use Rattle.hl_store.specs.Shapes.{IsShaped}
-use Rattle.hl_store.specs.Lying.{LiesOver}
 use Rattle.hl_store.specs.Reserving.{HasAsMuch, IsNoteRefused, IsReserved, KeepsButMemory, KeepsEach, Reserves}
 use Rattle.hl_store.proofs.SeatLemmas.{roomed_lies, roomed_nodes, with_overlay}
 

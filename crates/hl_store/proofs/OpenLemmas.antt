@@ -1,5 +1,5 @@
 -- A store that was just opened lies over what the mount found.
-use Rattle.std.proofs.Common.{◌≡◌, ◌≢◌, inl, inr, ℕ, ◌<◌, ◌≤◌, ◌==◌, not, Bool, true, false, List, [], length, slice_index, slice_index_or, Option, Some, None, is_some, sym, ◌∙◌, ap, subst, arith}
+use Rattle.std.proofs.Common.{◌≡◌, ◌≢◌, inl, inr, ℕ, ◌<◌, ◌≤◌, ◌==◌, not, Bool, true, false, List, [], slice_index, slice_index_or, Option, Some, None, is_some, sym, ◌∙◌, ap, subst, arith}
 use Rattle.std.proofs.lemmas.Bool.Decides.{eqb_tells}
 use Rattle.std.specs.FinMap.{get}
 use Rattle.hl_media.specs.History.{MachineState}
@@ -17,7 +17,7 @@ use Rattle.hl_overlaid.proofs.BehindLemmas.{over_none}
 use Rattle.hl_tally.specs.Tally.{Tally}
 use Rattle.hl_tally.proofs.MountLaws.{mounted_tally}
 use Rattle.hl_store.specs.declared.store.StoreParts.{StoreParts}
-use Rattle.hl_store.specs.Values.{Reserved, StoreValue, overlaid}
+use Rattle.hl_store.specs.Values.{Reserved, overlaid}
 use Rattle.hl_store.specs.Lying.{LiesOver}
 use Rattle.hl_store.specs.Opening.{AreInUse, AreOfContents, AreParts, store_of}
 

@@ -1,9 +1,9 @@
 -- While nothing is written, whatever a stop leaves holds what the store lies over.
-use Rattle.std.proofs.Common.{◌≡◌, inl, Option}
+use Rattle.std.proofs.Common.{inl, Option}
 use Rattle.hl_media.specs.History.{History, MachineState}
 use Rattle.hl_media.specs.Moments.{Runs}
 use Rattle.hl_media.proofs.Runs.{starts}
-use Rattle.hl_log.specs.Rest.{Keeps, SaysNothing}
+use Rattle.hl_log.specs.Rest.{Keeps}
 use Rattle.hl_nodes.proofs.ListingLaws.{rest_leaves_listed}
 use Rattle.hl_nodes.proofs.RestLaws.{rest_leaves}
 use Rattle.hl_nodes.proofs.SoundUnits.{sound_same}

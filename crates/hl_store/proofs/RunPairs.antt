@@ -1,7 +1,7 @@
 -- Two facts of each moment of one run.
 use Rattle.std.proofs.Common.{◌≡◌, List, [], ◌∷◌, ◌++◌, drop, length, Option, Some, refl, subst, sym, ap, ◌∙◌}
 use Rattle.std.proofs.lemmas.Option.{same_Some}
-use Rattle.hl_media.specs.History.{DeviceCall, History, MachineState, begun, ended, state_now, with_calls}
+use Rattle.hl_media.specs.History.{DeviceCall, History, MachineState, ended, state_now, with_calls}
 use Rattle.hl_media.specs.Moments.{AtEach, Runs}
 
 AtEach-both : (P Q : MachineState → Type 0) (s : MachineState) (calls : List DeviceCall) → AtEach P s calls → AtEach Q s calls → AtEach (λ t. P t × Q t) s calls

@@ -1,11 +1,10 @@
 -- The records of a store's unit are of blocks and changes of its site.
-use Rattle.std.proofs.Common.{◌≡◌, ◌⊎◌, inl, inr, ℕ, suc, zero, ◌<◌, ◌≤◌, All, true, List, [], ◌∷◌, ◌++◌, length, map, sum, slice_get, slice_index, filter, get_or, Option, Some, None, option_map, refl, sym, ◌∙◌, ap, subst, arith}
+use Rattle.std.proofs.Common.{◌≡◌, inl, inr, ℕ, suc, ◌<◌, ◌≤◌, All, List, [], ◌∷◌, length, sum, slice_get, slice_index, filter, get_or, Option, Some, None, option_map, refl, sym, ◌∙◌, ap, subst, arith}
 use Rattle.std.proofs.lemmas.Option.{none-some, slice_get-get_or}
-use Rattle.std.proofs.lemmas.List.Elements.{All-append, All-filter, All-from_get_or, All-get_or, All-map, All-push, All-weaker}
-use Rattle.hl_addr.specs.Layout.{Layout, table_blocks}
+use Rattle.std.proofs.lemmas.List.Elements.{All-append, All-filter, All-map, All-push, All-weaker}
+use Rattle.hl_addr.specs.Layout.{table_blocks}
 use Rattle.hl_bytes.specs.declared.block.Block.{Block}
 use Rattle.hl_bytes.specs.declared.records.BlockRecord.{BlockRecord}
-use Rattle.hl_bytes.specs.declared.records.TableRecord.{TableRecord}
 use Rattle.hl_summary.specs.Ranges.{IsBlockOf, IsChangeOf, IsInodeNumber}
 use Rattle.hl_log.specs.Loads.{AreOf}
 use Rattle.hl_overlay.specs.declared.pointers.Pointer.{Pointer}
@@ -14,9 +13,9 @@ use Rattle.hl_overlay.specs.declared.draft.NodeDraft.{NodeDraft}
 use Rattle.hl_overlay.specs.declared.draft.Shape.{Shape}
 use Rattle.hl_overlay.specs.Pointing.{where_is}
 use Rattle.hl_overlay.specs.Drafting.{is_freed}
-use Rattle.hl_overlay.specs.DraftTables.{DraftTable, IsDraftTable, draft_of, freed_of, freed_record}
+use Rattle.hl_overlay.specs.DraftTables.{DraftTable, draft_of, freed_of, freed_record}
 use Rattle.hl_overlay.specs.Overlays.{IsWholeOverlay, where_in}
-use Rattle.hl_overlay.specs.Making.{AddsAll, AddsDraft, AddsPointerBlock, AddsWanted, shape_wanted}
+use Rattle.hl_overlay.specs.Making.{AddsAll, AddsPointerBlock, AddsWanted, shape_wanted}
 use Rattle.hl_overlaid.specs.Units.{unit_changes}
 use Rattle.hl_store.specs.Values.{StoreValue, layout}
 use Rattle.hl_store.specs.Shapes.{IsNoteOf, IsShaped}

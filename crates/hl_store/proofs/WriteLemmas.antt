@@ -1,5 +1,5 @@
 -- The writing of a store's unit.
-use Rattle.std.proofs.Common.{◌≡◌, ◌⊎◌, inl, inr, ℕ, ◌+◌, ◌-◌, ◌/◌, ◌<◌, ◌≤◌, ◌^◌, min, true, false, Bool, if◌then◌else◌, All, List, [], ◌∷◌, drop, get_or, length, length-set, length-drop, slice_index, slice_set, Option, refl, sym, ◌∙◌, ap, subst, arith}
+use Rattle.std.proofs.Common.{◌≡◌, ◌⊎◌, inl, inr, ℕ, ◌+◌, ◌-◌, ◌/◌, ◌<◌, ◌^◌, min, true, false, Bool, if◌then◌else◌, All, List, [], ◌∷◌, drop, get_or, length, length-set, length-drop, slice_index, slice_set, Option, refl, sym, ◌∙◌, ap, subst, arith}
 use Rattle.std.proofs.lemmas.List.{get_or-map, length-map}
 use Rattle.std.proofs.lemmas.List.Elements.{All-nil}
 use Rattle.std.specs.List.{fold}
@@ -9,7 +9,7 @@ use Rattle.hl_bytes.specs.declared.records.TableRecord.{TableRecord}
 use Rattle.hl_summary.specs.Ranges.{IsBlockOf}
 use Rattle.hl_log.specs.Cut.{AreCut, IsPlan}
 use Rattle.hl_log.specs.Loads.{AreOf}
-use Rattle.hl_log.specs.Logs.{Failed, LogValue, UnitEnds, UnitIsWritten}
+use Rattle.hl_log.specs.Logs.{LogValue, UnitEnds, UnitIsWritten}
 use Rattle.hl_log.specs.Units.{Brought, HasCleanFor, HasWritten, WritesUnit}
 use Rattle.hl_log.specs.Free.{AreClean}
 use Rattle.hl_image.specs.declared.place.LogPlace.{LogPlace}
@@ -21,7 +21,7 @@ use Rattle.hl_tally.specs.Counting.{added, is_logged}
 use Rattle.hl_log.specs.declared.unit.UnitAnswer.{UnitAnswer}
 use Rattle.hl_log.specs.declared.unit.UnitAnswer.TheVariants as answer
 use Rattle.hl_log.proofs.TwoPhases.{length-addresses}
-use Rattle.hl_tables.specs.Values.{SameShape, TableValues}
+use Rattle.hl_tables.specs.Values.{TableValues}
 use Rattle.hl_tables.specs.Laying.{changed}
 use Rattle.hl_nodes.specs.Units.{blocks_placed}
 use Rattle.hl_overlay.specs.declared.draft.NodeDraft.{NodeDraft}
@@ -36,7 +36,7 @@ use Rattle.hl_store.specs.Reserving.{HasAsMuch, HasOthers, IsReserved, IsUnitRef
 use Rattle.hl_store.specs.Flushes.{Flushes, FlushesAll, HasUnitRoom, IsFlushed, WriteEnds}
 use Rattle.hl_store.specs.Writing.{HasInodeOf, IsLaid, Lays, PutsPlan, records_of}
 use Rattle.hl_store.proofs.FlushLemmas as unit
-use Rattle.hl_store.proofs.MemoryLemmas.{memory_kept, memory_keeps}
+use Rattle.hl_store.proofs.MemoryLemmas.{memory_kept}
 use Rattle.hl_store.proofs.FlushedLemmas.{behind, flushed, slots_same}
 use Rattle.hl_store.proofs.SiteRecords.{All-from_slice_get, unit_of_site}
 

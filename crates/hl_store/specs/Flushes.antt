@@ -1,5 +1,5 @@
 -- A flush: the nodes of the last unit or those that the store has now, at every moment.
-use Rattle.std.specs.Prelude.{◌≡◌, ◌⊎◌, ℕ, ◌<◌, ◌≤◌, List, drop, length, Option, Some}
+use Rattle.std.specs.Prelude.{◌≡◌, ◌⊎◌, ℕ, ◌<◌, ◌≤◌, drop, length, Option, Some}
 use Rattle.std.specs.FinMap.{get}
 use Rattle.hl_media.specs.History.{History, Image, MachineState}
 use Rattle.hl_media.specs.Moments.{Ends}

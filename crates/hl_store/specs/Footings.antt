@@ -1,5 +1,5 @@
 -- What a draft stands on.
-use Rattle.std.specs.Prelude.{◌≡◌, ◌≢◌, ℕ, ◌+◌, ◌<◌, ◌^◌, if◌then◌else◌, length, Option}
+use Rattle.std.specs.Prelude.{◌≡◌, ℕ, ◌+◌, ◌<◌, ◌^◌, length, Option}
 use Rattle.hl_addr.specs.Layout.{Layout}
 use Rattle.hl_overlay.specs.declared.pointers.Pointer.{Pointer}
 use Rattle.hl_overlay.specs.declared.draft.NodeDraft.{NodeDraft}
@@ -7,7 +7,7 @@ use Rattle.hl_overlay.specs.declared.draft.Shape.{Shape}
 use Rattle.hl_overlay.specs.Pointing.{has_far, where_is}
 use Rattle.hl_overlay.specs.Overlays.{Holding}
 use Rattle.hl_tally.specs.Tally.{Tally}
-use Rattle.hl_tally.specs.Counting.{block_counted, charge_held, far_charge, shape_counted}
+use Rattle.hl_tally.specs.Counting.{block_counted, charge_held, shape_counted}
 use Rattle.hl_store.specs.declared.footing.Footing.{Footing}
 
 -- what of a draft its next change may let go

@@ -13,8 +13,6 @@ use Rattle.hl_tables.specs.Values.{SameShape, TableValues}
 use Rattle.hl_nodes.specs.Units.{blocks_placed}
 use Rattle.hl_overlay.specs.DraftTables.{freed_of}
 use Rattle.hl_overlay.specs.MadeUnits.{MadeUnitValue}
-use Rattle.hl_overlay.specs.Overlays.{unit_blocks}
-use Rattle.hl_overlaid.specs.Units.{unit_changes}
 use Rattle.hl_tally.specs.Tally.{Tally}
 use Rattle.hl_tally.specs.Counting.{added}
 

@@ -1,9 +1,3 @@
-use Rattle.std.proofs.Common.{◌∙◌, ap, slice_index, sym, subst, rules, length, ◌<◌}
-use Rattle.hl_bytes.specs.declared.block.Block.{Block}
-use Rattle.hl_bytes.specs.declared.records.BlockRecord.{BlockRecord}
-use Rattle.hl_tables.specs.Values.{TableValues}
-use Rattle.hl_tables.specs.Laying.{block_laid}
-use Rattle.hl_tables.proofs.Laid.{same_shape-then}
 use Rattle.hl_store.proofs.LayLemmas.{laid_more}
 use Rattle.hl_store.proofs.flushing.lay_inodes.Goals as goal
 

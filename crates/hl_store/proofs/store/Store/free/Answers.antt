@@ -1,4 +1,4 @@
-use Rattle.std.proofs.Common.{◌≡◌, Some, None, ◌∙◌, ap, sym, subst}
+use Rattle.std.proofs.Common.{None, subst}
 use Rattle.std.specs.Prelude.{slice_index}
 use Rattle.hl_store.specs.Changes.{Reshapes}
 use Rattle.hl_overlaid.proofs.NowLemmas.{none_some}

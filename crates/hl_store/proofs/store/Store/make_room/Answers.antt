@@ -1,6 +1,5 @@
 use Rattle.std.proofs.Common.{rules, ◌≡◌, ◌+◌, length, refl, arith}
 use Rattle.std.specs.Vec.{vec_capacity}
-use Rattle.hl_store.specs.Values.{Reserved}
 use Rattle.hl_store.proofs.MemoryLemmas.{notes_kept, reserves}
 use Rattle.hl_store.proofs.store.Store.make_room.Goals as goal
 

@@ -1,6 +1,6 @@
 use Rattle.std.proofs.Common.{◌≤◌, length, rules, sym, subst, arith}
 use Rattle.std.specs.Vec.{vec_capacity}
-use Rattle.hl_store.specs.Values.{Reserved, StoreValue, layout}
+use Rattle.hl_store.specs.Values.{StoreValue, layout}
 use Rattle.hl_store.specs.Shapes.{IsNoteOf}
 use Rattle.hl_store.proofs.MemoryLemmas.{note_refused}
 use Rattle.hl_store.proofs.NoteSteps.{noted_shaped, notes_change}

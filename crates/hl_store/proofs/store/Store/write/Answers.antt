@@ -1,4 +1,4 @@
-use Rattle.std.proofs.Common.{rules, ◌≡◌, ℕ, ◌+◌, ◌*◌, ◌<◌, ◌≤◌, ◌^◌, List, drop, length, length-drop, arith, refl, sym, ◌∙◌, ap, subst}
+use Rattle.std.proofs.Common.{rules, ℕ, ◌+◌, ◌*◌, ◌<◌, ◌≤◌, ◌^◌, List, drop, length, length-drop, arith, refl, sym, ◌∙◌, ap, subst}
 use Rattle.std.specs.Prelude.{is_some}
 use Rattle.std.specs.Global.{Vec}
 use Rattle.std.specs.Vec.{vec_capacity}
@@ -6,7 +6,7 @@ use Rattle.hl_addr.specs.Layout.{Layout}
 use Rattle.hl_bytes.specs.declared.records.TableRecord.{TableRecord}
 use Rattle.hl_media.specs.Moments.{Runs}
 use Rattle.hl_overlay.specs.Overlays.{IsWholeOverlay, unit_blocks}
-use Rattle.hl_store.specs.Values.{Reserved, StoreValue}
+use Rattle.hl_store.specs.Values.{StoreValue}
 use Rattle.hl_log.specs.Logs.{UnitEnds, UnitIsWritten}
 use Rattle.hl_log.specs.Rest.{SaysNothing}
 use Rattle.hl_log.specs.Units.{WritesUnit}
