@@ -1,5 +1,5 @@
 -- A checkpoint that is not begun.
-use Rattle.std.proofs.Common.{◌≡◌, inl, Option}
+use Rattle.std.proofs.Common.{inl, Option}
 use Rattle.hl_media.specs.History.{History, Image, MachineState, MayLeave, state_now}
 use Rattle.hl_media.specs.Moments.{Runs}
 use Rattle.hl_media.proofs.Runs.{starts}

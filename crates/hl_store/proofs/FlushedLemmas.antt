@@ -29,7 +29,7 @@ use Rattle.hl_overlaid.proofs.UnitTables.{freed-placed, nowhere, own_record}
 use Rattle.hl_tally.specs.Tally.{IsTally}
 use Rattle.hl_tally.specs.Counting.{added, unit_counted}
 use Rattle.hl_tally.proofs.WrittenLaws.{written_tally}
-use Rattle.hl_store.specs.Values.{StoreValue, layout, nodes_of, overlaid}
+use Rattle.hl_store.specs.Values.{Reserved, StoreValue, layout, nodes_of, overlaid}
 use Rattle.hl_store.specs.Shapes.{IsShaped}
 use Rattle.hl_store.specs.Lying.{LiesOver}
 use Rattle.hl_store.specs.Flushes.{FlushesAll, HasFlushed, MayLast}
@@ -54,7 +54,7 @@ module _ {M : Type 0} (v : StoreValue M) (shaped : IsShaped v) (whole : IsWholeO
     (plan : List ℕ) (bs : List (BlockRecord × Block)) (pieces : List Piece) (rest : List ℕ)
     (are_cut : AreCut (layout v) v.log.at.head v.clean (unit_blocks v.overlay) (length (unit_changes v.overlay v.notes)) pieces rest)
     (plan_is : plan ≡ addresses (layout v) pieces) (adds : AddsAll plan v.uses v.overlay.drafts.items v.overlay.blocks bs)
-    (m : M) (q : Position) (t : TableValues) (o : OverlayValue) (used : ℕ) where
+    (m : M) (q : Position) (t : TableValues) (o : OverlayValue) (r : Reserved) (used : ℕ) where
   abbrev pub behind : StoreValue M
   behind = record {
     log = record { machine = m; geometry = v.log.geometry; rec = v.log.rec; at = q };
@@ -66,6 +66,8 @@ module _ {M : Type 0} (v : StoreValue M) (shaped : IsShaped v) (whole : IsWholeO
     lines = v.lines;
     clean = drop used v.clean;
     tseg_serial = v.tseg_serial;
+    reserved = r;
+    has_buffer = v.has_buffer;
   }
 
   module _ (at_is : q ≡ moved v.log.at q.head q.serial)

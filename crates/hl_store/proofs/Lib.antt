@@ -10,6 +10,7 @@ mod BlockSteps
 pub mod ReadRuns
 mod DraftReads
 mod SeatLemmas
+mod MemoryLemmas
 mod RunPairs
 mod FlushLemmas
 mod FlushedLemmas

@@ -18,10 +18,12 @@ use Rattle.hl_overlaid.specs.Units.{IsOfSlots}
 use Rattle.hl_overlaid.proofs.BehindLemmas.{notes-inodes}
 use Rattle.hl_overlaid.proofs.UseLemmas.{slots_now, slots_over}
 use Rattle.hl_tally.proofs.ReachLaws.{slots_tally}
-use Rattle.hl_store.specs.Values.{StoreValue, layout, overlaid}
+use Rattle.hl_store.specs.Values.{Reserved, StoreValue, layout, overlaid}
 use Rattle.hl_store.specs.Shapes.{IsNoteOf, IsShaped}
 use Rattle.hl_store.specs.Lying.{LiesOver}
 use Rattle.hl_store.specs.Noting.{Notes, with_note}
+use Rattle.hl_store.specs.Reserving.{HasAsMuch}
+use Rattle.hl_store.proofs.MemoryLemmas.{memory_keeps}
 
 -- the slots that a change of the tables leaves are told by those before it
 changed_slots_by : (p q s u w : Bool) (a b : TableValues) (r : TableRecord) → a.slots ≡ b.slots
@@ -39,9 +41,9 @@ changed_slots a b r e = changed_slots_by (r.kind == 1) (r.kind == 2) (r.kind == 
 
 module _ {M : Type 0} where
   -- A NOTE
-  module _ (t : StoreValue M) (change : TableRecord) (tables : TableValues) (notes : List TableRecord) (next : ℕ) (shaped : IsShaped t) (of : IsNoteOf (layout t) change) (notes_are : notes ≡ t.notes ++ change ∷ []) where
+  module _ (t : StoreValue M) (change : TableRecord) (tables : TableValues) (notes : List TableRecord) (next : ℕ) (r : Reserved) (shaped : IsShaped t) (of : IsNoteOf (layout t) change) (notes_are : notes ≡ t.notes ++ change ∷ []) where
     abbrev noted : StoreValue M
-    noted = record t { tables = tables; notes = notes; tseg_serial = next }
+    noted = record t { tables = tables; notes = notes; tseg_serial = next; reserved = r }
 
     -- each list is as long as it was, and each note is one of the site
     pub noted_shaped : SameShape t.tables tables → IsShaped noted
@@ -77,15 +79,16 @@ module _ {M : Type 0} where
         tally = slots_tally (layout t) s.content c (overlaid t) (changed t.tables change).slots t.tally lies.tally;
       }
 
-      noted_is : noted ≡ with_note t change
-      noted_is = ap (λ (x : TableValues). record t { tables = x; notes = notes; tseg_serial = next }) tables_are
-          ∙ ap (λ (x : List TableRecord). record t { tables = changed t.tables change; notes = x; tseg_serial = next }) notes_are
-          ∙ ap (λ (n : ℕ). record t { tables = changed t.tables change; notes = t.notes ++ change ∷ []; tseg_serial = n }) next_is
+      noted_is : noted ≡ record (with_note t change) { reserved = r }
+      noted_is = ap (λ (x : TableValues). record t { tables = x; notes = notes; tseg_serial = next; reserved = r }) tables_are
+          ∙ ap (λ (x : List TableRecord). record t { tables = changed t.tables change; notes = x; tseg_serial = next; reserved = r }) notes_are
+          ∙ ap (λ (n : ℕ). record t { tables = changed t.tables change; notes = t.notes ++ change ∷ []; tseg_serial = n; reserved = r }) next_is
 
-      pub notes_change : (self : StoreValue M) → t ≡ self → Notes self noted change
-      notes_change self view_is = subst (λ (x : StoreValue M). Notes x noted change) view_is
+      pub notes_change : HasAsMuch t.reserved r → (self : StoreValue M) → t ≡ self → Notes self noted change
+      notes_change much self view_is = subst (λ (x : StoreValue M). Notes x noted change) view_is
           (subst (λ (x : StoreValue M). Notes t x change) (sym noted_is) (record {
             same = refl;
-            over = noted_over;
+            much = much;
+            over = λ c s lies possible keeps. (memory_keeps (with_note t change) r t.has_buffer c s (noted_over c s lies possible keeps)).over;
             nodes = λ c. slots_now (overlaid t) (changed t.tables change).slots c.nodes;
           }))

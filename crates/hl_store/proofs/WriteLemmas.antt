@@ -1,5 +1,5 @@
 -- The writing of a store's unit.
-use Rattle.std.proofs.Common.{◌≡◌, inl, inr, ℕ, ◌+◌, ◌-◌, ◌/◌, ◌<◌, ◌^◌, min, true, false, Bool, if◌then◌else◌, All, List, [], ◌∷◌, drop, get_or, length, length-set, length-drop, slice_index, slice_set, Option, refl, sym, ◌∙◌, ap, subst, arith}
+use Rattle.std.proofs.Common.{◌≡◌, ◌⊎◌, inl, inr, ℕ, ◌+◌, ◌-◌, ◌/◌, ◌<◌, ◌^◌, min, true, false, Bool, if◌then◌else◌, All, List, [], ◌∷◌, drop, get_or, length, length-set, length-drop, slice_index, slice_set, Option, refl, sym, ◌∙◌, ap, subst, arith}
 use Rattle.std.proofs.lemmas.List.{get_or-map, length-map}
 use Rattle.std.proofs.lemmas.List.Elements.{All-nil}
 use Rattle.std.specs.List.{fold}
@@ -25,17 +25,18 @@ use Rattle.hl_tables.specs.Values.{TableValues}
 use Rattle.hl_tables.specs.Laying.{changed}
 use Rattle.hl_nodes.specs.Units.{blocks_placed}
 use Rattle.hl_overlay.specs.declared.draft.NodeDraft.{NodeDraft}
-use Rattle.hl_overlay.specs.DraftTables.{DraftTable, HasNone, freed_of, others_in}
+use Rattle.hl_overlay.specs.DraftTables.{DraftTable, HasNone, freed_of, others_in, others_of}
 use Rattle.hl_overlay.specs.MadeUnits.{IsMadeOf, MadeUnitValue, undone}
 use Rattle.hl_overlay.specs.Overlays.{IsEmpty, IsWholeOverlay, OverlayValue, unit_blocks}
 use Rattle.hl_overlay.specs.Making.{AddsAll}
 use Rattle.hl_overlaid.specs.Units.{brought_by, unit_changes}
-use Rattle.hl_store.specs.declared.flushing.PlannedUnit.{PlannedUnit}
-use Rattle.hl_store.specs.Values.{IsTidy, StoreValue, layout}
+use Rattle.hl_store.specs.Values.{IsTidy, Reserved, StoreValue, layout}
 use Rattle.hl_store.specs.Shapes.{IsNoteOf, IsShaped}
+use Rattle.hl_store.specs.Reserving.{HasAsMuch, HasOthers, IsReserved, IsUnitRefused}
 use Rattle.hl_store.specs.Flushes.{Flushes, FlushesAll, HasUnitRoom, IsFlushed, WriteEnds}
-use Rattle.hl_store.specs.Writing.{HasInodeOf, IsLaid, IsPlannedUnit, Lays, records_of}
+use Rattle.hl_store.specs.Writing.{HasInodeOf, IsLaid, Lays, PutsPlan, records_of}
 use Rattle.hl_store.proofs.FlushLemmas as unit
+use Rattle.hl_store.proofs.MemoryLemmas.{memory_kept}
 use Rattle.hl_store.proofs.FlushedLemmas.{behind, flushed, slots_same}
 use Rattle.hl_store.proofs.SiteRecords.{All-from_slice_get, unit_of_site}
 
@@ -47,27 +48,68 @@ pub record IsMade {M : Type 0} (v : StoreValue M) (plan : List ℕ) (made : Made
   pub drafts : made.drafts ≡ v.overlay.drafts
   pub fresh : made.fresh ≡ v.overlay.blocks
 
-pub made_of : {M : Type 0} (v : StoreValue M) (inside o : OverlayValue) (room : ℕ) → inside ≡ v.overlay → o ≡ record inside { room = room } → (p : PlannedUnit) → IsPlannedUnit v p
-    → (plan uses : List ℕ) (changes : List TableRecord) → plan ≡ p.plan.items → uses ≡ v.uses → changes ≡ p.changes.items
+pub made_of : {M : Type 0} (v : StoreValue M) (o : OverlayValue) → HasOthers v.overlay o
+    → (plan uses : List ℕ) (changes : List TableRecord) → IsPlan (layout v) v.log.at.head v.clean (unit_blocks v.overlay) (length (unit_changes v.overlay v.notes)) plan → uses ≡ v.uses → changes ≡ unit_changes v.overlay v.notes
     → (made : MadeUnitValue) → IsMadeOf plan uses o changes made → IsMade v plan made
-made_of v inside o room inside_is o_is p planned plan uses changes plan_is uses_is changes_is made is =
-    let at : o ≡ record v.overlay { room = room } = o_is ∙ ap (λ (x : OverlayValue). record x { room = room }) inside_is in
-    record {
-      planned = subst (IsPlan (layout v) v.log.at.head v.clean (unit_blocks v.overlay) (length (unit_changes v.overlay v.notes))) (sym plan_is) planned.plan;
-      adds = subst (λ (x : OverlayValue). AddsAll plan v.uses x.drafts.items x.blocks made.blocks) at (subst (λ (us : List ℕ). AddsAll plan us o.drafts.items o.blocks made.blocks) uses_is is.adds);
-      tables = is.tables_are ∙ changes_is ∙ planned.changes;
-      drafts = is.drafts_are ∙ ap (λ (x : OverlayValue). x.drafts) at;
-      fresh = is.fresh_are ∙ ap (λ (x : OverlayValue). x.blocks) at;
-    }
+made_of v o fits plan uses changes planned uses_is changes_is made is = record {
+  planned = planned;
+  adds = subst (λ (x : OverlayValue). AddsAll plan v.uses x.drafts.items x.blocks made.blocks) fits.same (subst (λ (us : List ℕ). AddsAll plan us o.drafts.items o.blocks made.blocks) uses_is is.adds);
+  tables = is.tables_are ∙ changes_is;
+  drafts = is.drafts_are ∙ ap (λ (x : OverlayValue). x.drafts) fits.same;
+  fresh = is.fresh_are ∙ ap (λ (x : OverlayValue). x.blocks) fits.same;
+}
+
+module _ {M : Type 0} (self v : StoreValue M) (view_is : v ≡ self) (blocks tables : ℕ) (clean plan : List ℕ) (b : Bool)
+    (blocks_are : blocks ≡ unit_blocks self.overlay) (tables_are : tables ≡ length (unit_changes self.overlay self.notes)) (clean_is : clean ≡ v.clean)
+    (puts : PutsPlan (layout v) v.log.at.head clean blocks tables plan b) where
+  puts_here : PutsPlan (layout v) v.log.at.head v.clean (unit_blocks v.overlay) (length (unit_changes v.overlay v.notes)) plan b
+  puts_here =
+      subst (λ n. PutsPlan (layout v) v.log.at.head v.clean (unit_blocks v.overlay) n plan b) (tables_are ∙ sym (ap (λ (x : StoreValue M). length (unit_changes x.overlay x.notes)) view_is))
+      (subst (λ n. PutsPlan (layout v) v.log.at.head v.clean n tables plan b) (blocks_are ∙ sym (ap (λ (x : StoreValue M). unit_blocks x.overlay) view_is))
+      (subst (λ (cs : List ℕ). PutsPlan (layout v) v.log.at.head cs blocks tables plan b) clean_is puts))
+
+  -- the plan that was put is of the next unit
+  pub put_for : b ≡ true → (slice : List ℕ) → slice ≡ plan → IsPlan (layout v) v.log.at.head v.clean (unit_blocks v.overlay) (length (unit_changes v.overlay v.notes)) slice
+  put_for there slice slice_is = subst (IsPlan (layout v) v.log.at.head v.clean (unit_blocks v.overlay) (length (unit_changes v.overlay v.notes))) (sym slice_is)
+      (subst (PutsPlan (layout v) v.log.at.head v.clean (unit_blocks v.overlay) (length (unit_changes v.overlay v.notes)) plan) there puts_here)
+
+  -- or there are too few clean segments for it
+  none_for : b ≡ false → (¬ HasUnitRoom v) × (plan ≡ [])
+  none_for gone = subst (PutsPlan (layout v) v.log.at.head v.clean (unit_blocks v.overlay) (length (unit_changes v.overlay v.notes)) plan) gone puts_here
+
+  pub none_put : b ≡ false → plan ≡ []
+  none_put gone = (none_for gone).1
+
+  pub log_full : b ≡ false → (history : M → Option History) (faults write_faults : M → ℕ) (r : Reserved) → HasAsMuch v.reserved r → WriteEnds history faults write_faults self (record v { reserved = r }) answer.LogFull
+  log_full gone history faults write_faults r much = subst (λ (x : StoreValue M). WriteEnds history faults write_faults x (record v { reserved = r }) answer.LogFull) view_is
+      ((none_for gone).0, memory_kept v v r refl much)
 
 -- its plan has an address for each of its blocks
-pub plan_for : {M : Type 0} (v : StoreValue M) (inside o : OverlayValue) (room : ℕ) → inside ≡ v.overlay → o ≡ record inside { room = room } → (p : PlannedUnit) → IsPlannedUnit v p
-    → (plan : List ℕ) → plan ≡ p.plan.items → length plan ≡ unit_blocks o
-plan_for v inside o room inside_is o_is p planned plan plan_is =
-    let at : o ≡ record v.overlay { room = room } = o_is ∙ ap (λ (x : OverlayValue). record x { room = room }) inside_is in
-    ap length (plan_is ∙ planned.plan.3)
-    ∙ length-addresses (layout v) v.log.at.head v.clean (unit_blocks v.overlay) (length (unit_changes v.overlay v.notes)) planned.plan.0 planned.plan.1 planned.plan.2
-    ∙ sym (ap unit_blocks at)
+pub plan_for : {M : Type 0} (v : StoreValue M) (o : OverlayValue) → HasOthers v.overlay o
+    → (plan : List ℕ) → IsPlan (layout v) v.log.at.head v.clean (unit_blocks v.overlay) (length (unit_changes v.overlay v.notes)) plan → length plan ≡ unit_blocks o
+plan_for v o fits plan planned =
+    ap length planned.3
+    ∙ length-addresses (layout v) v.log.at.head v.clean (unit_blocks v.overlay) (length (unit_changes v.overlay v.notes)) planned.0 planned.1 planned.2
+    ∙ sym (ap unit_blocks fits.same)
+
+-- there is no memory for the addresses
+pub plan_refused : {M : Type 0} (self v : StoreValue M) → v ≡ self → (blocks : ℕ) → blocks ≡ unit_blocks self.overlay → v.reserved.plan < blocks → (r : Reserved) → HasAsMuch v.reserved r → IsUnitRefused self (record v { reserved = r })
+plan_refused self v view_is blocks are less r much =
+    (λ (is : IsReserved self). (let enough = is.plan in let same : v.reserved.plan ≡ self.reserved.plan = ap (λ (x : StoreValue _). x.reserved.plan) view_is in absurd (omega arith)), memory_kept self v r view_is much)
+
+-- there is no memory for the changes, or no room for inodes and pointer blocks
+pub changes_refused : {M : Type 0} (self v : StoreValue M) → v ≡ self → (count : ℕ) → count ≡ length (unit_changes self.overlay self.notes) → (v.reserved.changes < count) ⊎ (v.overlay.room < others_of v.overlay.drafts)
+    → (r : Reserved) → HasAsMuch v.reserved r → (o : OverlayValue) → o ≡ v.overlay → IsUnitRefused self (record v { overlay = o; reserved = r })
+changes_refused {M = M} self v view_is count are less r much o same =
+    subst (λ (x : OverlayValue). IsUnitRefused self (record v { overlay = x; reserved = r })) (sym same) (short less, memory_kept self v r view_is much)
+  where
+    short : (v.reserved.changes < count) ⊎ (v.overlay.room < others_of v.overlay.drafts) → IsReserved self → ⊥
+    short (inl few) is = (let enough = is.changes in let same : v.reserved.changes ≡ self.reserved.changes = ap (λ (x : StoreValue M). x.reserved.changes) view_is in omega arith)
+    short (inr few) is =
+        let enough = is.room in
+        let a : v.overlay.room ≡ self.overlay.room = ap (λ (x : StoreValue M). x.overlay.room) view_is in
+        let b : others_of v.overlay.drafts ≡ others_of self.overlay.drafts = ap (λ (x : StoreValue M). others_of x.overlay.drafts) view_is in
+        omega arith
 
 -- as many segments have live blocks counted
 added_all-length : (k : ℕ) (live plan : List ℕ) → length (fold (added k) live plan) ≡ length live
@@ -112,7 +154,7 @@ module _ {M : Type 0} (v : StoreValue M) (shaped : IsShaped v) (whole : IsWholeO
       (All-from_slice_get (λ (d : NodeDraft). d.ino < length v.tables.inodes) v.overlay.drafts.items
       (λ k d at. (let placed = (whole.table.placed k d at).0 in let places = shaped.drafts in let count = shaped.inodes in omega arith)))
 
-  module _ (history : M → Option History) (faults write_faults : M → ℕ) (log : LogValue M) (t : TableValues) (tally : Tally) (o : OverlayValue) (used n : ℕ)
+  module _ (history : M → Option History) (faults write_faults : M → ℕ) (log : LogValue M) (t : TableValues) (tally : Tally) (o : OverlayValue) (r : Reserved) (used n : ℕ)
       (geometry : log.geometry ≡ v.log.geometry) (w : UnitIsWritten history faults write_faults v.clean brought v.log log used)
       (laid : IsLaid (layout v).k plan made v.tables t v.tally tally) (empty : IsEmpty n o) (none : HasNone o.drafts) (numbers_are : n ≡ length made.drafts.places) where
     -- the store behind
@@ -127,15 +169,17 @@ module _ {M : Type 0} (v : StoreValue M) (shaped : IsShaped v) (whole : IsWholeO
       lines = v.lines;
       clean = drop used v.clean;
       tseg_serial = v.tseg_serial;
+      reserved = r;
+      has_buffer = v.has_buffer;
     }
 
     abbrev as_one : LogValue M → Tally → StoreValue M
-    as_one l n = record { log = l; tables = t; notes = []; overlay = o; uses = v.uses; tally = n; lines = v.lines; clean = drop used v.clean; tseg_serial = v.tseg_serial }
+    as_one l n = record { log = l; tables = t; notes = []; overlay = o; uses = v.uses; tally = n; lines = v.lines; clean = drop used v.clean; tseg_serial = v.tseg_serial; reserved = r; has_buffer = v.has_buffer }
 
     log_is : log ≡ record { machine = log.machine; geometry = v.log.geometry; rec = v.log.rec; at = log.at }
     log_is = ap (λ g. record { machine = log.machine; geometry = g; rec = log.rec; at = log.at }) geometry ∙ ap (λ r. record { machine = log.machine; geometry = v.log.geometry; rec = r; at = log.at }) w.rec
 
-    same : behind_it ≡ behind v shaped whole plan made.blocks is.planned.0 is.planned.1 is.planned.2 is.planned.3 is.adds log.machine log.at t o used
+    same : behind_it ≡ behind v shaped whole plan made.blocks is.planned.0 is.planned.1 is.planned.2 is.planned.3 is.adds log.machine log.at t o r used
     same = ap (λ (l : LogValue M). as_one l tally) log_is ∙ ap (λ (n : Tally). as_one (record { machine = log.machine; geometry = v.log.geometry; rec = v.log.rec; at = log.at }) n) laid.tally
 
     laid_on : t ≡ fold changed (blocks_placed v.tables (records_of made.blocks) plan) (freed_of v.overlay.drafts.items)
@@ -151,10 +195,10 @@ module _ {M : Type 0} (v : StoreValue M) (shaped : IsShaped v) (whole : IsWholeO
 
     -- the store as it is left, whose notes are none and whose clean segments are these
     pub left_so : (P : StoreValue M → Type 0) (notes : List TableRecord) (clean : List ℕ) → notes ≡ [] → clean ≡ drop used v.clean → P behind_it
-        → P (record { log = log; tables = t; notes = notes; overlay = o; uses = v.uses; tally = tally; lines = v.lines; clean = clean; tseg_serial = v.tseg_serial })
+        → P (record { log = log; tables = t; notes = notes; overlay = o; uses = v.uses; tally = tally; lines = v.lines; clean = clean; tseg_serial = v.tseg_serial; reserved = r; has_buffer = v.has_buffer })
     left_so P notes clean none_noted these here =
-        subst (λ (ns : List TableRecord). P (record { log = log; tables = t; notes = ns; overlay = o; uses = v.uses; tally = tally; lines = v.lines; clean = clean; tseg_serial = v.tseg_serial })) (sym none_noted)
-        (subst (λ (cs : List ℕ). P (record { log = log; tables = t; notes = []; overlay = o; uses = v.uses; tally = tally; lines = v.lines; clean = cs; tseg_serial = v.tseg_serial })) (sym these) here)
+        subst (λ (ns : List TableRecord). P (record { log = log; tables = t; notes = ns; overlay = o; uses = v.uses; tally = tally; lines = v.lines; clean = clean; tseg_serial = v.tseg_serial; reserved = r; has_buffer = v.has_buffer })) (sym none_noted)
+        (subst (λ (cs : List ℕ). P (record { log = log; tables = t; notes = []; overlay = o; uses = v.uses; tally = tally; lines = v.lines; clean = cs; tseg_serial = v.tseg_serial; reserved = r; has_buffer = v.has_buffer })) (sym these) here)
 
     -- THE UNIT IS WRITTEN
     pub is_flushed : HasUnitRoom v × IsFlushed history faults write_faults v behind_it used
@@ -169,11 +213,12 @@ module _ {M : Type 0} (v : StoreValue M) (shaped : IsShaped v) (whole : IsWholeO
         in_use = ap (λ (n : Tally). n.in_use) laid.tally;
         charge = ap (λ (n : Tally). n.charge) laid.tally;
         lines = refl;
-        slots = slots_same v shaped whole plan made.blocks is.planned.0 is.planned.1 is.planned.2 is.planned.3 is.adds log.machine log.at t o used w.at laid_on empty.none;
+        slots = slots_same v shaped whole plan made.blocks is.planned.0 is.planned.1 is.planned.2 is.planned.3 is.adds log.machine log.at t o r used w.at laid_on empty.none;
         serial = refl;
+        buffer = refl;
         succeeded = w.succeeded;
         over = subst (λ (x : StoreValue M). Ends (history v.log.machine) (history log.machine) (FlushesAll v x)) (sym same)
-            (flushed v shaped whole plan made.blocks is.planned.0 is.planned.1 is.planned.2 is.planned.3 is.adds log.machine log.at t o used w.at laid_on empty.none
+            (flushed v shaped whole plan made.blocks is.planned.0 is.planned.1 is.planned.2 is.planned.3 is.adds log.machine log.at t o r used w.at laid_on empty.none
             (history v.log.machine) (history log.machine)
             (subst (λ (ts : List TableRecord). Ends (history v.log.machine) (history log.machine) (HasWritten (layout v) v.log.at v.clean (brought_by made.blocks ts) log.at (drop used v.clean))) is.tables w.written));
       },
@@ -207,21 +252,21 @@ module _ {M : Type 0} (v : StoreValue M) (shaped : IsShaped v) (whole : IsWholeO
             (subst (λ (ts : List TableRecord). AreCut (layout v) v.log.at.head v.clean (unit_blocks v.overlay) (length ts) is.planned.0 is.planned.1) (sym is.tables) is.planned.2),
       )
 
-  abbrev one : LogValue M → TableValues → Tally → OverlayValue → StoreValue M
-  one l x n y = record { log = l; tables = x; notes = v.notes; overlay = y; uses = v.uses; tally = n; lines = v.lines; clean = v.clean; tseg_serial = v.tseg_serial }
+  abbrev one : Reserved → LogValue M → TableValues → Tally → OverlayValue → StoreValue M
+  one r l x n y = record { log = l; tables = x; notes = v.notes; overlay = y; uses = v.uses; tally = n; lines = v.lines; clean = v.clean; tseg_serial = v.tseg_serial; reserved = r; has_buffer = v.has_buffer }
 
   -- THE UNIT ISN'T WRITTEN
-  pub not_written : (history : M → Option History) (faults write_faults : M → ℕ) (log : LogValue M) (t : TableValues) (tally : Tally) (o : OverlayValue) (result : UnitAnswer)
+  pub not_written : (history : M → Option History) (faults write_faults : M → ℕ) (log : LogValue M) (t : TableValues) (tally : Tally) (o : OverlayValue) (r : Reserved) (result : UnitAnswer)
       → ((n : ℕ) → result ≡ answer.Written n → ⊥) → UnitEnds history faults write_faults v.clean brought v.log log result → Lays (layout v).k plan made v.tables t v.tally tally result → o ≡ undone made
-      → WriteEnds history faults write_faults v (record { log = log; tables = t; notes = v.notes; overlay = o; uses = v.uses; tally = tally; lines = v.lines; clean = v.clean; tseg_serial = v.tseg_serial }) result
-  not_written history faults write_faults log t tally o (answer.Written n) other ends lays back = absurd (other n refl)
-  not_written history faults write_faults log t tally o answer.LogFull other ends lays back = absurd (ends.0 enough)
-  not_written history faults write_faults log t tally o answer.Memory other ends lays back = absurd ends
-  not_written history faults write_faults log t tally o answer.DiskFault other ends lays back =
+      → WriteEnds history faults write_faults v (record { log = log; tables = t; notes = v.notes; overlay = o; uses = v.uses; tally = tally; lines = v.lines; clean = v.clean; tseg_serial = v.tseg_serial; reserved = r; has_buffer = v.has_buffer }) result
+  not_written history faults write_faults log t tally o r (answer.Written n) other ends lays back = absurd (other n refl)
+  not_written history faults write_faults log t tally o r answer.LogFull other ends lays back = absurd (ends.0 enough)
+  not_written history faults write_faults log t tally o r answer.Memory other ends lays back = absurd ends
+  not_written history faults write_faults log t tally o r answer.DiskFault other ends lays back =
       let at : o ≡ record v.overlay { room = 0 } = back
       ∙ ap (λ (d : DraftTable). record { drafts = d; blocks = made.fresh; room = 0 }) is.drafts
       ∙ ap (λ (bs : List (BlockRecord × Block)). record { drafts = v.overlay.drafts; blocks = bs; room = 0 }) is.fresh in (
         (is.planned.0, is.planned.1, is.planned.2),
         ends.1,
-        ap (λ (x : TableValues). one log x tally o) lays.0 ∙ ap (λ (n : Tally). one log v.tables n o) lays.1 ∙ ap (λ (x : OverlayValue). one log v.tables v.tally x) at,
+        ap (λ (x : TableValues). one r log x tally o) lays.0 ∙ ap (λ (n : Tally). one r log v.tables n o) lays.1 ∙ ap (λ (x : OverlayValue). one r log v.tables v.tally x) at,
       )

@@ -19,6 +19,7 @@ use Rattle.hl_overlay.specs.Overlays.{unit_blocks}
 use Rattle.hl_overlaid.specs.Units.{unit_changes}
 use Rattle.hl_store.specs.Values.{IsTidy, StoreValue, layout, nodes_of}
 use Rattle.hl_store.specs.Lying.{LiesOver}
+use Rattle.hl_store.specs.Reserving.{IsUnitRefused, KeepsButMemory}
 
 module _ {M : Type 0} where
   -- The nodes that the store has now may be made last: the serials of the unit have room in 64 bits, the root is a directory,
@@ -89,20 +90,23 @@ module _ {M : Type 0} where
     pub lines : new.lines ≡ old.lines
     pub slots : new.tables.slots ≡ old.tables.slots
     pub serial : new.tseg_serial ≡ old.tseg_serial
+    pub buffer : new.has_buffer ≡ old.has_buffer
     pub succeeded : Succeeded history faults write_faults old.log new.log
     pub over : Ends (history old.log.machine) (history new.log.machine) (FlushesAll old new)
 
-  -- nothing but the machine changed, and the room for new blocks, which was given up
+  -- nothing but the machine changed, and the room for new blocks and the memory for a unit, which were given up
   abbrev pub KeepsButRoom : StoreValue M → StoreValue M → Type 0
   KeepsButRoom old new =
-      new ≡ record old { log = new.log; overlay = record old.overlay { room = 0 } }
+      let overlay = record old.overlay { room = 0 } in
+      new ≡ record old { log = new.log; overlay = overlay; reserved = new.reserved }
 
   -- How the writing of a unit ends.
   abbrev pub WriteEnds : (M → Option History) → (M → ℕ) → (M → ℕ) → StoreValue M → StoreValue M
       → UnitAnswer → Type 0
   WriteEnds history faults write_faults old new (answer.Written used) =
       HasUnitRoom old × IsFlushed history faults write_faults old new used
-  WriteEnds history faults write_faults old new answer.LogFull = (¬ HasUnitRoom old) × (new ≡ old)
+  WriteEnds history faults write_faults old new answer.LogFull = (¬ HasUnitRoom old)
+      × KeepsButMemory old new
   WriteEnds history faults write_faults old new answer.DiskFault = HasUnitRoom old
       × Failed faults write_faults old.log new.log × KeepsButRoom old new
   WriteEnds history faults write_faults old new answer.Memory = ⊥
@@ -115,7 +119,8 @@ module _ {M : Type 0} where
       (IsTidy old × (new ≡ old) × (used ≡ 0))
       ⊎ ((¬ IsTidy old) × (¬ IsShort old) × IsFlushed history faults write_faults old new used)
   FlushEnds history faults write_faults old new answer.LogFull =
-      (¬ IsTidy old) × IsShort old × (new ≡ old)
+      (¬ IsTidy old) × IsShort old × KeepsButMemory old new
   FlushEnds history faults write_faults old new answer.DiskFault = (¬ IsTidy old) × (¬ IsShort old)
       × Failed faults write_faults old.log new.log × KeepsButRoom old new
-  FlushEnds history faults write_faults old new answer.Memory = (¬ IsTidy old) × (new ≡ old)
+  FlushEnds history faults write_faults old new answer.Memory =
+      (¬ IsTidy old) × IsUnitRefused old new

@@ -5,6 +5,7 @@ pub mod Footings
 pub mod Opening
 pub mod Lying
 pub mod Finding
+pub mod Reserving
 pub mod Seats
 pub mod Reading
 pub mod Changes

@@ -9,6 +9,7 @@ use Rattle.hl_nodes.specs.Tables.{raised}
 use Rattle.hl_overlaid.specs.Changes.{KeepsAllSlots}
 use Rattle.hl_store.specs.Values.{StoreValue, layout, nodes_of, overlaid}
 use Rattle.hl_store.specs.Lying.{LiesOver}
+use Rattle.hl_store.specs.Reserving.{HasAsMuch}
 
 module _ {M : Type 0} where
   -- the store with a change of a slot or a volume made in its tables and put into the next unit
@@ -19,10 +20,11 @@ module _ {M : Type 0} where
     tseg_serial = raised v.tseg_serial change;
   }
 
-  -- A change of a slot or a volume is noted. The store lies over what it lay over, where the slots are possible then and
+  -- A change of a slot or a volume is noted, and there is memory for as much as there was. The store lies over what it lay over, where the slots are possible then and
   -- hold each segment of which a node has a block, and no node changes.
   pub record Notes (old new : StoreValue M) (change : TableRecord) : Type 0 where
-    pub same : new ≡ with_note old change
+    pub same : new ≡ record (with_note old change) { reserved = new.reserved }
+    pub much : HasAsMuch old.reserved new.reserved
     pub over : (c : Contents) (s : MachineState) → LiesOver old c s
         → AreSlots (layout old) new.tables.slots new.tseg_serial
         → KeepsAllSlots (overlaid old) c.nodes new.tables.slots → LiesOver new c s

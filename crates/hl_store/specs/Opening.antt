@@ -12,7 +12,7 @@ use Rattle.hl_nodes.specs.Live.{IsLive}
 use Rattle.hl_nodes.specs.Sound.{IsSound, head_of}
 use Rattle.hl_overlay.specs.Overlays.{IsEmpty, OverlayValue}
 use Rattle.hl_tally.specs.Counting.{added}
-use Rattle.hl_store.specs.Values.{StoreValue}
+use Rattle.hl_store.specs.Values.{Reserved, StoreValue}
 use Rattle.hl_store.specs.declared.store.StoreParts.{StoreParts}
 
 -- what a mount found is of the site of the log
@@ -37,10 +37,10 @@ pub record AreInUseTo (end : ℕ) (t : TableValues) (flags : List Bool) : Type 0
 abbrev pub AreInUse : TableValues → List Bool → Type 0
 AreInUse t flags = AreInUseTo (length t.inodes) t flags
 
--- the store of these parts, with an overlay and numbers in use
+-- the store of these parts, with an overlay, numbers in use and its buffer, and with memory for so much
 abbrev pub store_of : {M : Type 0} → LogValue M → StoreParts → OverlayValue → List Bool
-    → StoreValue M
-store_of log parts overlay in_use = record {
+    → Reserved → StoreValue M
+store_of log parts overlay in_use reserved = record {
   log = log;
   tables = parts.tables;
   notes = [];
@@ -50,12 +50,14 @@ store_of log parts overlay in_use = record {
   lines = parts.lines;
   clean = parts.clean.items;
   tseg_serial = parts.tseg_serial;
+  reserved = reserved;
+  has_buffer = true;
 }
 
 -- a store of these parts, of which nothing is changed
 pub record IsOpened {M : Type 0} (log : LogValue M) (parts : StoreParts)
     (v : StoreValue M) : Type 0 where
-  pub same : v ≡ store_of log parts v.overlay v.tally.in_use
+  pub same : v ≡ store_of log parts v.overlay v.tally.in_use v.reserved
   pub empty : IsEmpty log.geometry.inodes v.overlay
   pub in_use : AreInUse parts.tables v.tally.in_use
 

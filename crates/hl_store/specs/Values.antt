@@ -1,5 +1,5 @@
 -- A store as contracts see it.
-use Rattle.std.specs.Prelude.{◌≡◌, ℕ, ◌+◌, List, [], length}
+use Rattle.std.specs.Prelude.{◌≡◌, ℕ, ◌+◌, Bool, List, [], length}
 use Rattle.hl_addr.specs.Layout.{Layout}
 use Rattle.hl_bytes.specs.declared.records.TableRecord.{TableRecord}
 use Rattle.hl_lines.specs.LineTable.{Lines}
@@ -12,9 +12,16 @@ use Rattle.hl_overlay.specs.Overlays.{OverlayValue, unit_blocks}
 use Rattle.hl_overlaid.specs.NodesNow.{Overlaid, nodes_now}
 use Rattle.hl_tally.specs.Tally.{Tally}
 
+-- for how many addresses of a unit, changes of its tables and notes there is memory
+pub record Reserved : Type 0 where
+  pub plan : ℕ
+  pub changes : ℕ
+  pub notes : ℕ
+
 -- The log; the tables, with the changes of slots and volumes that were made in them and that the next unit is to have; the
 -- drafts of nodes with their new blocks; the last use of each number; what is counted of the nodes; what each line of the
--- disk holds; the clean segments, in the order in which they are taken; and the serial of the next tertiary segment.
+-- disk holds; the clean segments, in the order in which they are taken; the serial of the next tertiary segment; for how
+-- much there is memory; and whether the unit buffer is there.
 pub record StoreValue (M : Type 0) : Type 0 where
   pub log : LogValue M
   pub tables : TableValues
@@ -25,6 +32,8 @@ pub record StoreValue (M : Type 0) : Type 0 where
   pub lines : Lines
   pub clean : List ℕ
   pub tseg_serial : ℕ
+  pub reserved : Reserved
+  pub has_buffer : Bool
 
 module _ {M : Type 0} where
   -- the site

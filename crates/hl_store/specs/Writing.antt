@@ -1,9 +1,11 @@
 -- A unit of a store.
-use Rattle.std.specs.Prelude.{◌≡◌, ℕ, List, length, map, Option, Some, None}
+use Rattle.std.specs.Prelude.{◌≡◌, ℕ, Bool, true, false, List, [], map}
 use Rattle.std.specs.List.{fold}
+use Rattle.hl_addr.specs.Layout.{Layout}
+use Rattle.hl_image.specs.declared.place.LogPlace.{LogPlace}
 use Rattle.hl_bytes.specs.declared.block.Block.{Block}
 use Rattle.hl_bytes.specs.declared.records.BlockRecord.{BlockRecord}
-use Rattle.hl_log.specs.Cut.{IsPlan}
+use Rattle.hl_log.specs.Cut.{HasClean, IsPlan}
 use Rattle.hl_log.specs.declared.unit.UnitAnswer.{UnitAnswer}
 use Rattle.hl_log.specs.declared.unit.UnitAnswer.TheVariants as answer
 use Rattle.hl_tables.specs.Laying.{HasInode, changed}
@@ -11,13 +13,8 @@ use Rattle.hl_tables.specs.Values.{SameShape, TableValues}
 use Rattle.hl_nodes.specs.Units.{blocks_placed}
 use Rattle.hl_overlay.specs.DraftTables.{freed_of}
 use Rattle.hl_overlay.specs.MadeUnits.{MadeUnitValue}
-use Rattle.hl_overlay.specs.Overlays.{unit_blocks}
-use Rattle.hl_overlaid.specs.Units.{unit_changes}
 use Rattle.hl_tally.specs.Tally.{Tally}
 use Rattle.hl_tally.specs.Counting.{added}
-use Rattle.hl_store.specs.declared.flushing.PlannedUnit.{PlannedUnit}
-use Rattle.hl_store.specs.Values.{StoreValue, layout}
-use Rattle.hl_store.specs.Flushes.{HasUnitRoom}
 
 -- the records of blocks
 abbrev pub records_of : List (BlockRecord × Block) → List BlockRecord
@@ -43,13 +40,8 @@ Lays k plan made old new before now answer.LogFull = (new ≡ old) × (now ≡ b
 Lays k plan made old new before now answer.DiskFault = (new ≡ old) × (now ≡ before)
 Lays k plan made old new before now answer.Memory = (new ≡ old) × (now ≡ before)
 
--- the changes of the next unit of a store, and the addresses of its blocks
-pub record IsPlannedUnit {M : Type 0} (v : StoreValue M) (p : PlannedUnit) : Type 0 where
-  pub changes : p.changes.items ≡ unit_changes v.overlay v.notes
-  pub plan : IsPlan (layout v) v.log.at.head v.clean (unit_blocks v.overlay)
-      (length (unit_changes v.overlay v.notes)) p.plan.items
-
--- what is planned is the next unit; none is where there are too few clean segments for it
-abbrev pub IsPlanned : {M : Type 0} → StoreValue M → Option PlannedUnit → Type 0
-IsPlanned v None = ¬ HasUnitRoom v
-IsPlanned v (Some p) = IsPlannedUnit v p
+-- the addresses of a unit's blocks; or none, where there are too few clean segments for it
+abbrev pub PutsPlan : Layout → LogPlace → List ℕ → ℕ → ℕ → List ℕ → Bool → Type 0
+PutsPlan g head clean blocks tables plan true = IsPlan g head clean blocks tables plan
+PutsPlan g head clean blocks tables plan false =
+    (¬ HasClean g head clean blocks tables) × (plan ≡ [])

@@ -1,12 +1,14 @@
 //! Making the nodes that a store has now those of every image.
 
-ghost use Rattle.std.specs.Prelude.{◌≡◌, ◌<◌, ◌≤◌, ◌^◌, ◌↔◌, All, IfOk, IsTrue, OnErr, if◌then◌else◌, length};
+ghost use Rattle.std.specs.Prelude.{◌≡◌, ◌⊎◌, ◌<◌, ◌≤◌, ◌^◌, ◌↔◌, All, [], IfOk, IsTrue, OnErr, OnOk, if◌then◌else◌, length};
 ghost use Rattle.std.specs.List.{fold};
+ghost use Rattle.std.specs.Vec.{vec_capacity};
 ghost use Rattle.hl_tables.specs.Laying.{HasInode, block_laid, changed};
 ghost use Rattle.hl_tables.specs.Values.{SameShape};
 ghost use Rattle.hl_nodes.specs.Units.{blocks_placed};
 ghost use Rattle.hl_store.specs.Shapes.{IsShaped};
-ghost use Rattle.hl_store.specs.Writing.{HasInodeOf, IsPlanned, Lays, records_of};
+ghost use Rattle.hl_store.specs.Writing.{HasInodeOf, Lays, PutsPlan, records_of};
+ghost use Rattle.hl_store.specs.Reserving.{HasOthers};
 ghost use Rattle.hl_media.specs.Moments.{Runs};
 ghost use Rattle.hl_log.specs.Free.{AreClean};
 ghost use Rattle.hl_log.specs.Loads.{AreOf};
@@ -14,7 +16,7 @@ ghost use Rattle.hl_log.specs.Logs.{UnitEnds};
 ghost use Rattle.hl_log.specs.Rest.{SaysNothing};
 ghost use Rattle.hl_log.specs.Units.{WritesUnit};
 ghost use Rattle.hl_overlay.specs.Drafting.{is_freed};
-ghost use Rattle.hl_overlay.specs.DraftTables.{freed_of, freed_record};
+ghost use Rattle.hl_overlay.specs.DraftTables.{freed_of, freed_record, others_of};
 ghost use Rattle.hl_overlay.specs.Overlays.{IsWholeOverlay, unit_blocks};
 ghost use Rattle.hl_overlaid.specs.Units.{brought_by, unit_changes};
 
@@ -24,10 +26,11 @@ use hl_addr::NOTHING;
 use hl_bytes::{BlockRecord, TableRecord};
 use hl_log::{Log, Unit, UnitAnswer};
 use hl_media::Machine;
-use hl_overlay::{MadeUnit, NodeDraft};
+use hl_overlay::{MadeUnit, NodeDraft, Overlay};
 use hl_summary::INODE;
 use hl_tables::Tables;
 use std::alloc::{AllocError, Global};
+use std::mem;
 
 /// A unit outside of a pass begins with at least so many clean segments.
 pub const CLEAN_MIN: usize = 6;
@@ -119,15 +122,76 @@ fn write_made<M: Machine>(
     answer
 }
 
-/// The changes of a unit, and the addresses that its blocks get.
-#[derive(Drop)]
-struct PlannedUnit {
-    changes: Vec<TableRecord>,
-    plan: Vec<u32>,
+/// Puts the addresses of the blocks of a unit into memory, of which more is taken where it is too little. False where there
+/// are too few clean segments for the unit; no address is there then.
+fn put_plan<M: Machine>(
+    log: &Log<M>,
+    blocks: u32,
+    tables: u32,
+    clean: &[u32],
+    plan: &mut Vec<u32>,
+) -> Result<bool, AllocError>
+    requires clean { AreClean log.now.geometry log.now.at.head.seg clean.now }
+    requires empty { plan.old.items ≡ [] }
+    ensures puts { let head = log.now.at.head in
+        IfOk result (PutsPlan log.now.geometry head clean.now blocks tables plan.new.items) }
+    ensures err { OnErr result (plan.new.items ≡ []) }
+    ensures full { OnErr result (vec_capacity plan.old < blocks) }
+    ensures capacity { vec_capacity plan.old ≤ vec_capacity plan.new }
+{
+    plan.resize(blocks as usize, 0)?;
+    if log.plan_into(tables, clean, plan.as_mut_slice()) {
+        return Ok(true);
+    }
+    plan.clear();
+    Ok(false)
+}
+
+/// Makes room for the inodes and pointer blocks of the drafts, unless there is enough. It fails only where there isn't.
+fn make_others_fit(overlay: &mut Overlay) -> Result<(), AllocError>
+    ensures ok { OnOk result (HasOthers overlay.old overlay.new) }
+    ensures err { OnErr result (overlay.new ≡ overlay.old) }
+    ensures full { OnErr result (overlay.old.room < others_of overlay.old.drafts) }
+{
+    let others = overlay.others();
+    if overlay.room() >= others as usize {
+        return Ok(());
+    }
+    overlay.reserve(others)
+}
+
+/// Puts the changes of a unit into memory, and makes room for its inodes and pointer blocks. It fails only where there was
+/// too little of either.
+fn put_changes(
+    overlay: &mut Overlay,
+    notes: &[TableRecord],
+    count: u32,
+    changes: &mut Vec<TableRecord>,
+) -> Result<(), AllocError>
+    requires empty { changes.old.items ≡ [] }
+    requires count { count ≡ length (unit_changes overlay.old notes.now) }
+    ensures puts { OnOk result (changes.new.items ≡ unit_changes overlay.old notes.now) }
+    ensures fits { OnOk result (HasOthers overlay.old overlay.new) }
+    ensures err { OnErr result (changes.new.items ≡ []) }
+    ensures same { OnErr result (overlay.new ≡ overlay.old) }
+    ensures full { OnErr result ((vec_capacity changes.old < count)
+        ⊎ (overlay.old.room < others_of overlay.old.drafts)) }
+    ensures capacity { vec_capacity changes.old ≤ vec_capacity changes.new }
+{
+    changes.reserve(count as usize)?;
+    make_others_fit(overlay)?;
+    let Ok(()) = overlay.push_freed(changes) else {
+        unreachable!()
+    };
+    let Ok(()) = changes.extend_from_slice(notes) else {
+        unreachable!()
+    };
+    Ok(())
 }
 
 impl<M: Machine> Store<M> {
     ghost use Rattle.hl_store.specs.Flushes.{FlushEnds, Flushes, WriteEnds};
+    ghost use Rattle.hl_store.specs.Reserving.{IsUnitRefused};
     ghost use Rattle.hl_store.specs.Values.{IsTidy};
 
     /// Whether the next unit would have nothing.
@@ -137,34 +201,28 @@ impl<M: Machine> Store<M> {
         self.dirty() == 0 && self.notes.as_slice().is_empty()
     }
 
-    /// The changes of the tables that the next unit is to have.
-    fn changes(&self, alloc: Global) -> Result<Vec<TableRecord>, AllocError>
-        ensures { IfOk result (λ changes.
-            changes.items ≡ unit_changes self.now.overlay self.now.notes) }
-    {
-        let mut changes = Vec::new(alloc);
-        self.overlay.push_freed(&mut changes)?;
-        changes.extend_from_slice(self.notes.as_slice())?;
-        Ok(changes)
-    }
-
-    /// The changes of the next unit and the addresses of its blocks. None where there are too few clean segments. Want of
-    /// memory counts also where it would have 2^32 changes.
-    fn plan_unit(&self, alloc: Global) -> Result<Option<PlannedUnit>, AllocError>
-        ensures planned { IfOk result (IsPlanned self.now) }
+    /// How many blocks the next unit has.
+    fn unit_blocks(&self) -> u32
+        ensures value { result ≡ unit_blocks self.now.overlay }
         ensures whole { IsWholeOverlay self.now.overlay }
-        ensures shape { IsShaped self.now }
         ensures few { unit_blocks self.now.overlay < 2 ^ 32 }
     {
-        let blocks = self.overlay.new_blocks() + self.overlay.others();
-        let clean = self.clean();
-        let changes = self.changes(alloc)?;
-        let Ok(tables) = u32::try_from(changes.as_slice().len()) else {
+        self.overlay.new_blocks() + self.overlay.others()
+    }
+
+    /// How many changes the next unit has. It fails where these are 2^32.
+    fn unit_tables(&self) -> Result<u32, AllocError>
+        ensures value { let count = length (unit_changes self.now.overlay self.now.notes) in
+            IfOk result (λ tables. tables ≡ count) }
+        ensures many { let count = length (unit_changes self.now.overlay self.now.notes) in
+            OnErr result (2 ^ 32 ≤ count) }
+    {
+        let Ok(notes) = u32::try_from(self.notes.len()) else {
             return Err(AllocError);
         };
-        match self.log.plan(alloc, blocks, tables, clean)? {
-            Some(plan) => Ok(Some(PlannedUnit { changes, plan })),
-            None => Ok(None),
+        match self.overlay.freed().checked_add(notes) {
+            Some(tables) => Ok(tables),
+            None => Err(AllocError),
         }
     }
 
@@ -175,7 +233,7 @@ impl<M: Machine> Store<M> {
         ensures silent { Runs (M.history self.old.log.machine)
             (M.history self.new.log.machine) SaysNothing }
         ensures ends { IfOk result (WriteEnds M.history M.faults M.write_faults self.old self.new) }
-        ensures err { OnErr result (self.new ≡ self.old) }
+        ensures err { OnErr result (IsUnitRefused self.old self.new) }
         ensures geometry { self.new.log.geometry ≡ self.old.log.geometry }
         ensures blocks { M.blocks self.new.log.machine ≡ M.blocks self.old.log.machine }
         ensures faults { M.faults self.old.log.machine ≤ M.faults self.new.log.machine }
@@ -184,15 +242,23 @@ impl<M: Machine> Store<M> {
         ensures say_faults { M.say_faults self.new.log.machine
             ≡ M.say_faults self.old.log.machine }
     {
-        let Some(PlannedUnit { changes, plan }) = self.plan_unit(alloc)? else {
+        let tables = self.unit_tables()?;
+        let blocks = self.unit_blocks();
+        let clean = not_taken(&self.clean, self.taken);
+        let planned = put_plan(&self.log, blocks, tables, clean, &mut self.plan)?;
+        if !planned {
             return Ok(UnitAnswer::LogFull);
-        };
-        self.overlay.reserve(self.overlay.others())?;
-        let plan = plan.as_slice();
+        }
+        let notes = self.notes.as_slice();
+        if let Err(error) = put_changes(&mut self.overlay, notes, tables, &mut self.changes) {
+            self.plan.clear();
+            return Err(error);
+        }
+        let changes = mem::replace(&mut self.changes, Vec::new(alloc));
+        let plan = self.plan.as_slice();
         let made = self
             .overlay
             .make(alloc, plan, self.uses.as_slice(), changes);
-        let clean = not_taken(&self.clean, self.taken);
         let answer = write_made(
             &mut self.log,
             &mut self.tables,
@@ -201,6 +267,7 @@ impl<M: Machine> Store<M> {
             plan,
             &made,
         );
+        self.plan.clear();
         let UnitAnswer::Written { used } = answer else {
             self.overlay = made.undone();
             return Ok(answer);
@@ -216,7 +283,7 @@ impl<M: Machine> Store<M> {
     /// nodes that the store has, and nothing is drafted. `LogFull` comes exactly where anything is dirty and fewer than six
     /// segments are clean or too few for the unit; nothing is written then. After `DiskFault` the log is not to be written
     /// again, and the room for new blocks is given up. Memory is taken before the first device call, and where it is wanting
-    /// nothing changes.
+    /// nothing changes. It is never wanting where it was reserved.
     pub fn flush(&mut self, alloc: Global) -> UnitAnswer
         ensures crash { Runs (M.history self.old.log.machine) (M.history self.new.log.machine)
             (Flushes self.old) }

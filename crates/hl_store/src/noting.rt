@@ -5,6 +5,7 @@ ghost use Rattle.hl_nodes.specs.Tables.{raised};
 ghost use Rattle.hl_store.specs.Values.{layout};
 ghost use Rattle.hl_store.specs.Shapes.{IsNoteOf};
 ghost use Rattle.hl_store.specs.Noting.{Notes};
+ghost use Rattle.hl_store.specs.Reserving.{IsNoteRefused};
 
 use crate::store::Store;
 use hl_bytes::TableRecord;
@@ -24,11 +25,11 @@ fn raised(next: u64, change: &TableRecord) -> u64
 
 impl<M: Machine> Store<M> {
     /// Makes a change of a slot or a volume in the tables, and puts it into the next unit. Nothing changes where memory is
-    /// wanted.
+    /// wanted, which is never so where it was reserved.
     pub fn note(&mut self, change: TableRecord) -> Result<(), AllocError>
         requires { IsNoteOf (layout self.old) change }
         ensures noted { OnOk result (Notes self.old self.new change) }
-        ensures err { OnErr result (self.new ≡ self.old) }
+        ensures err { OnErr result (IsNoteRefused self.old self.new) }
     {
         self.overlay.tell_whole();
         // What a table of slots keeps is told by lending them.

@@ -1,12 +1,12 @@
 //! The store.
 
-ghost use Rattle.std.specs.Prelude.{◌≡◌, ◌+◌, ◌-◌, ◌<◌, ◌≤◌, ◌^◌, true, IfOk, IfErr, drop, length, replicate, slice_get, Some};
+ghost use Rattle.std.specs.Prelude.{◌≡◌, ◌+◌, ◌*◌, ◌-◌, ◌<◌, ◌≤◌, ◌^◌, true, IfOk, IfErr, drop, length, replicate, slice_get, Some};
 ghost use Rattle.hl_store.specs.Opening.{AreInUse};
 
 use crate::counts::Counts;
 use crate::in_use::InUse;
 use hl_addr::{Geometry, NOTHING};
-use hl_bytes::TableRecord;
+use hl_bytes::{SegBuf, TableRecord};
 use hl_lines::LineTable;
 use hl_log::Log;
 use hl_media::{Failed, Machine};
@@ -55,11 +55,19 @@ pub struct Store<M: Machine> {
     pub(crate) taken: usize,
     /// The serial that the next tertiary segment gets.
     pub(crate) tseg_serial: u64,
+    /// Memory for the addresses of a unit. It is empty between calls.
+    pub(crate) plan: Vec<u32>,
+    /// Memory for the changes of a unit. It is empty between calls.
+    pub(crate) changes: Vec<TableRecord>,
+    /// The unit buffer, unless it was taken.
+    pub(crate) buffer: Option<SegBuf>,
 }
 
 impl<M: Machine> Model for Store<M> {
-    ghost use Rattle.std.specs.Prelude.{drop, ◌≤◌, length};
-    ghost use Rattle.hl_store.specs.Values.{StoreValue};
+    ghost use Rattle.std.specs.Prelude.{drop, ◌≤◌, is_some, length};
+    ghost use Rattle.std.specs.Vec.{vec_capacity};
+    ghost use Rattle.hl_store.specs.Values.{Reserved, StoreValue};
+    ghost use Rattle.hl_store.specs.Reserving.{IsSpare};
     ghost use Rattle.hl_store.specs.Shapes.{IsShaped};
 
     ghost Value = { StoreValue M };
@@ -74,6 +82,12 @@ impl<M: Machine> Model for Store<M> {
       lines = s.lines;
       clean = drop s.taken s.clean.items;
       tseg_serial = s.tseg_serial;
+      reserved = record {
+        plan = vec_capacity s.plan;
+        changes = vec_capacity s.changes;
+        notes = vec_capacity s.notes;
+      };
+      has_buffer = is_some s.buffer;
     } };
 
     ghost invariant = { λ s. record {
@@ -87,7 +101,14 @@ impl<M: Machine> Model for Store<M> {
         lines = s.lines;
         clean = drop s.taken s.clean.items;
         tseg_serial = s.tseg_serial;
+        reserved = record {
+          plan = vec_capacity s.plan;
+          changes = vec_capacity s.changes;
+          notes = vec_capacity s.notes;
+        };
+        has_buffer = is_some s.buffer;
       });
+      spare : IsSpare s.log.geometry.k s.plan.items s.changes.items s.buffer;
       taken : s.taken ≤ length s.clean.items;
     } };
 }
@@ -118,6 +139,26 @@ impl<M: Machine> Store<M> {
             → AreOfContents log parts c s → LiesOver store c s) }
         ensures back { IfErr result (λ refused. refused.1 ≡ log) }
     {
+        let Ok(buffer) = SegBuf::new(alloc, log.geometry().k) else {
+            return Err((AllocError, log));
+        };
+        Store::open_with(alloc, log, parts, buffer)
+    }
+
+    /// The same, with its unit buffer.
+    fn open_with(
+        alloc: Global,
+        log: Log<M>,
+        parts: StoreParts,
+        buffer: SegBuf,
+    ) -> Result<Store<M>, (AllocError, Log<M>)>
+        requires parts { AreParts log parts }
+        requires buffer { length buffer ≡ 4096 * log.geometry.k }
+        ensures opened { IfOk result (IsOpened log parts) }
+        ensures over { IfOk result (λ store. (c : Contents) (s : MachineState)
+            → AreOfContents log parts c s → LiesOver store c s) }
+        ensures back { IfErr result (λ refused. refused.1 ≡ log) }
+    {
         let inodes = log.geometry().inodes;
         let Ok(overlay) = Overlay::new(alloc, inodes) else {
             return Err((AllocError, log));
@@ -137,6 +178,9 @@ impl<M: Machine> Store<M> {
             clean: parts.clean,
             taken: 0,
             tseg_serial: parts.tseg_serial,
+            plan: Vec::new(alloc),
+            changes: Vec::new(alloc),
+            buffer: Some(buffer),
         })
     }
 

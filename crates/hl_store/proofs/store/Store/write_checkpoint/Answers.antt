@@ -1,4 +1,4 @@
-use Rattle.std.proofs.Common.{drop, length, ◌∙◌, ap, arith}
+use Rattle.std.proofs.Common.{◌*◌, drop, length, sym, ◌∙◌, ap, arith}
 use Rattle.std.proofs.lemmas.List.{take_rest}
 use Rattle.hl_addr.specs.Layout.{Layout}
 use Rattle.hl_super.specs.declared.record.Record.{Record}
@@ -64,6 +64,7 @@ invariant_of-self-2 g c = record {
       (ap (λ (l : Layout). l.k) (c.behind-self.view_is ∙ c.geometry.ensures.value ∙ c.write_tables-answer.ensures.geometry))
       c.items.ensures (c.items-2.ensures ∙ ap (λ (r : Record). r.tables) c.rec.ensures) c.remove_blocks.ensures c.add_blocks.ensures)
       (cleans_of c.clean_segments.result.items c.add_blocks.new.self.live c.live.result.now c.head.result.0 c.head.result.1 c.write_tables-answer.new.log.at.head c.clean_segments.ensures c.live.ensures c.head.ensures);
+  spare = record { no_plan = c.self.invariant.spare.no_plan; no_changes = c.self.invariant.spare.no_changes; size = λ bytes is. c.self.invariant.spare.size bytes is ∙ sym (ap (λ (l : Layout). 4096 * l.k) c.write_tables-answer.ensures.geometry) };
   taken = omega arith;
 }
 
