@@ -1,20 +1,19 @@
 -- A write and a cut, put together from their steps.
-use Rattle.std.proofs.Common.{arith, ◌≡◌, ℕ, ◌+◌, ◌-◌, ◌*◌, ◌/◌, ◌%◌, ◌<◌, ◌≤◌, Bool, false, if◌then◌else◌, List, length, max, Option, Some, refl, ◌∙◌, ap, sym, subst}
+use Rattle.std.proofs.Common.{arith, ◌≡◌, ℕ, ◌+◌, ◌*◌, ◌/◌, ◌<◌, ◌≤◌, Bool, if◌then◌else◌, List, length, max, Option, Some, ◌∙◌, ap, sym, subst}
 use Rattle.hl_media.specs.Causes.{Rose}
-use Rattle.hl_media.specs.History.{History, state_now}
+use Rattle.hl_media.specs.History.{History}
 use Rattle.hl_media.specs.Moments.{Runs}
 use Rattle.hl_log.specs.Logs.{OnlyReads}
 use Rattle.hl_log.specs.Rest.{IsUnchanged}
 use Rattle.hl_tree.specs.Contents.{written}
 use Rattle.hl_placed.specs.Blocks.{PlacedFile, Shelf, padded_block, plain_bytes}
 use Rattle.hl_placed.specs.Changes.{cut_file, written_file}
-use Rattle.hl_nodes.specs.Contents.{Contents}
 use Rattle.hl_store.specs.Values.{StoreValue}
 use Rattle.hl_store.specs.Finding.{ReadsNodes}
 use Rattle.hl_store.specs.Changes.{KeepsBeside}
 use Rattle.hl_ranges.specs.declared.ranges.RangeStep.{RangeStep}
 use Rattle.hl_ranges.specs.declared.ranges.RangeStep.TheVariants as step
-use Rattle.hl_ranges.specs.Files.{HasFile, OfFile, file_node}
+use Rattle.hl_ranges.specs.Files.{OfFile, file_node}
 use Rattle.hl_ranges.specs.Ranges.{MakesChange}
 use Rattle.hl_ranges.specs.Writing.{CutsEdge, FindsSize, IsCutBlock, ReadsEdges, Stops, new_block, patched}
 use Rattle.hl_ranges.proofs.FoundFiles.{of_file_before}
@@ -45,7 +44,7 @@ module _ {M : Type 0} where
         let before_is : before ≡ file.size = found.is h told c lies shelf file shows has in
         ap Some (patched_written shelf file size at bytes now (new_block at bytes front back) some (size_is ∙ ap (λ n. max n (at + length bytes)) before_is)
         (of_file_before history old mid reads ino (λ c shelf file. (i : ℕ) → at < 4096 * i + 4096 → 4096 * i < at + length bytes → new_block at bytes front back i ≡ padded_block (written (plain_bytes shelf file) at bytes) i) run edges
-            h told c lies shelf file shows has))
+        h told c lies shelf file shows has))
 
     -- A CUT: so is it the file cut
     pub cut_same : (edge : List ℕ) (now before size : ℕ) (is_cut : Bool) → FindsSize history old mid ino before → CutsEdge history mid ino before size edge is_cut

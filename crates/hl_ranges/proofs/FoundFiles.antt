@@ -1,5 +1,5 @@
 -- What reads find of a file.
-use Rattle.std.proofs.Common.{arith, ◌≡◌, ℕ, ◌+◌, ◌-◌, ◌*◌, ◌/◌, ◌<◌, ◌≤◌, Bool, true, false, ◌&&◌, not, List, ◌++◌, length, get_or, replicate, option_map, Option, Some, Result, Ok, Err, refl, ◌∙◌, ap, sym, subst}
+use Rattle.std.proofs.Common.{arith, ◌≡◌, ℕ, ◌+◌, ◌-◌, ◌/◌, ◌<◌, true, false, not, List, ◌++◌, length, get_or, option_map, Option, Some, Result, Ok, Err, refl, ◌∙◌, ap, sym, subst}
 use Rattle.std.specs.Result.{OnOk}
 use Rattle.std.specs.FinMap.{get}
 use Rattle.std.proofs.lemmas.List.{get_or-replicate}
@@ -16,8 +16,8 @@ use Rattle.hl_paths.specs.Nodes.{FlatNode}
 use Rattle.hl_nodes.specs.Contents.{Contents}
 use Rattle.hl_overlay.specs.declared.draft.NodeDraft.{NodeDraft}
 use Rattle.hl_overlay.specs.DraftTables.{draft_of}
-use Rattle.hl_overlaid.specs.NodesNow.{old_block, with_node}
-use Rattle.hl_overlaid.proofs.NowLemmas.{one, same_nodes, with_node-other, with_node-same}
+use Rattle.hl_overlaid.specs.NodesNow.{old_block}
+use Rattle.hl_overlaid.proofs.NowLemmas.{one}
 use Rattle.hl_log.specs.Logs.{OnlyReads, with_machine}
 use Rattle.hl_store.specs.declared.answers.Node.{Node}
 use Rattle.hl_store.specs.Values.{StoreValue, dirty_of, layout, nodes_of}
@@ -27,7 +27,7 @@ use Rattle.hl_overlay.specs.declared.draft.Shape.{Shape}
 use Rattle.hl_overlaid.proofs.PutLemmas.{mapped}
 use Rattle.hl_store.specs.Shapes.{IsNumber}
 use Rattle.hl_store.specs.Changes.{IsDraftedAs, drafted_shape}
-use Rattle.hl_ranges.specs.Files.{HasFile, LinesShow, OfFile, file_node}
+use Rattle.hl_ranges.specs.Files.{HasFile, LinesShow, OfFile}
 use Rattle.hl_ranges.specs.Writing.{FindsSize, IsOldBlock, ReadsEdge, ReadsEdges, ReadsSide}
 use Rattle.hl_ranges.proofs.WrittenBlocks.{block_is}
 use Rattle.hl_ranges.proofs.NewBlocks.{new_is}
@@ -98,7 +98,7 @@ module _ {M : Type 0} where
     of_file_before ino P run of h told c lies shelf file shows has =
         let k = reads.keeps h told c lies in
         now_before (history old.log.machine) (history new.log.machine) (λ s. (c : Contents) → LiesOver new c s → (shelf : Shelf) (file : PlacedFile) → LinesShow new s shelf → HasFile new c shelf ino file → P c shelf file) run of
-            h told c k.over shelf file (shows_still (state_now h) shelf shows) (record { has = ap (λ ns. get ns ino) k.nodes ∙ has.has; placed = has.placed })
+        h told c k.over shelf file (shows_still (state_now h) shelf shows) (record { has = ap (λ ns. get ns ino) k.nodes ∙ has.has; placed = has.placed })
 
     -- a number that is drafted as a file stays so
     pub drafted_still : (ino : ℕ) (x : Option Shape) → ino < (layout old).inodes → drafted_shape old ino ≡ Some x → drafted_shape new ino ≡ Some x
@@ -178,4 +178,4 @@ module _ {M : Type 0} where
     edges_of_two reads run other h told c lies shelf file shows has =
         new_is at bytes front back (plain_bytes shelf file) some (one_side h told c lies shelf file shows has) (λ lt.
         of_file_before history old mid reads ino (λ c shelf file. covers at (at + length bytes) ((at + length bytes - 1) / 4096) ≡ false → back ≡ padded_block (written (plain_bytes shelf file) at bytes) ((at + length bytes - 1) / 4096)) run other
-            h told c lies shelf file shows has)
+        h told c lies shelf file shows has)

@@ -192,8 +192,8 @@ module _ (shelf : Shelf) (file : PlacedFile) (size : ℕ) (edge : List ℕ) wher
   patched_cut now is_cut is =
       ap (λ n. of_blocks n now (listed (blocks_of n) (block_put (size / 4096) (if is_cut then size / 4096 + 1 else size / 4096) (λ j. edge) (Some (file_node file))))) (sym (length-resized (plain_bytes shelf file) size))
       ∙ ap (of_blocks (length (resized (plain_bytes shelf file) size)) now) (listed_same (block_put (size / 4096) (if is_cut then size / 4096 + 1 else size / 4096) (λ j. edge) (Some (file_node file)))
-          (λ j. if cuts file size j && not (is_hole (file_block file j)) then Here (padded_block (resized (plain_bytes shelf file) size) j) else file_block file j) (blocks_of (length (resized (plain_bytes shelf file) size)))
-          (λ j lt. by is_cut refl j (cases_eq j (size / 4096))))
+      (λ j. if cuts file size j && not (is_hole (file_block file j)) then Here (padded_block (resized (plain_bytes shelf file) size) j) else file_block file j) (blocks_of (length (resized (plain_bytes shelf file) size)))
+      (λ j lt. by is_cut refl j (cases_eq j (size / 4096))))
     where
       kept : (end j : ℕ) → j ≢ size / 4096 → (j < size / 4096) ⊎ (end ≤ j) → block_put (size / 4096) end (λ j. edge) (Some (file_node file)) j
           ≡ (if cuts file size j && not (is_hole (file_block file j)) then Here (padded_block (resized (plain_bytes shelf file) size) j) else file_block file j)

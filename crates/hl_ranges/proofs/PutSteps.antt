@@ -1,34 +1,31 @@
 -- Blocks of a file that are put, one behind the other.
-use Rattle.std.proofs.Common.{arith, ◌≡◌, inl, inr, ℕ, ◌+◌, ◌-◌, ◌*◌, ◌/◌, ◌%◌, ◌<◌, ◌≤◌, Bool, true, false, IsSome, List, length, Option, Some, None, option_map, refl, ◌∙◌, ap, sym, subst}
-use Rattle.std.specs.Prelude.{slice_index, slice_set}
+use Rattle.std.proofs.Common.{arith, ◌≡◌, inl, inr, ℕ, ◌+◌, ◌*◌, ◌<◌, ◌≤◌, IsSome, List, Option, Some, option_map, refl, ◌∙◌, ap, sym, subst}
+use Rattle.std.specs.Prelude.{slice_index}
 use Rattle.std.specs.FinMap.{get}
 use Rattle.std.proofs.lemmas.Bool.{cases_eq}
-use Rattle.std.proofs.lemmas.List.{get_or-set_same}
-use Rattle.hl_media.specs.History.{History, MachineState, state_now}
+use Rattle.hl_media.specs.History.{History, state_now}
 use Rattle.hl_media.specs.Moments.{Runs}
 use Rattle.hl_media.proofs.Runs.{ends_of_run}
 use Rattle.hl_log.specs.Rest.{IsUnchanged}
-use Rattle.hl_inode.specs.declared.inode.Kind.{Kind}
 use Rattle.hl_inode.specs.declared.inode.Kind.TheVariants as kinds
 use Rattle.hl_placed.specs.Blocks.{Here, PlacedFile, Shelf, blocks_of}
 use Rattle.hl_paths.specs.Nodes.{FlatNode, Nodes}
-use Rattle.hl_nodes.specs.Contents.{Contents}
 use Rattle.hl_overlay.specs.declared.draft.NodeDraft.{NodeDraft}
 use Rattle.hl_overlay.specs.declared.draft.Shape.{Shape}
 use Rattle.hl_overlay.specs.Drafting.{blocks_of_shape}
 use Rattle.hl_overlay.specs.DraftTables.{HasBlock, draft_of}
 use Rattle.hl_overlaid.specs.NodesNow.{with_node}
-use Rattle.hl_overlaid.specs.Changes.{reshaped, with_block}
+use Rattle.hl_overlaid.specs.Changes.{with_block}
 use Rattle.hl_overlaid.proofs.NowLemmas.{one, same_nodes, with_node-other, with_node-same}
 use Rattle.hl_overlaid.proofs.PutLemmas.{mapped}
 use Rattle.hl_store.specs.Values.{StoreValue, layout, nodes_of}
 use Rattle.hl_store.specs.Lying.{LiesOver}
-use Rattle.hl_store.specs.Finding.{KeepsNodes, ReadsNodes}
+use Rattle.hl_store.specs.Finding.{ReadsNodes}
 use Rattle.hl_store.specs.Shapes.{IsNumber}
 use Rattle.hl_store.specs.Changes.{Always, ChangesNode, IsOfKind, KeepsBeside, PutsInto, Reshapes, drafted_shape}
-use Rattle.hl_ranges.specs.Files.{HasFile, LinesShow, OfFile, file_node}
+use Rattle.hl_ranges.specs.Files.{OfFile, file_node}
 use Rattle.hl_ranges.specs.Ranges.{ChangesFile}
-use Rattle.hl_ranges.specs.Writing.{IsDraftedFile, patched}
+use Rattle.hl_ranges.specs.Writing.{patched}
 use Rattle.hl_ranges.proofs.PatchedNodes.{patched_more, patched_none}
 
 -- the size reaches each block before its last byte
@@ -85,13 +82,13 @@ module _ {M : Type 0} where
     beside = beside_both old mid next a.beside p.changes.beside;
     over = λ c s l always. p.changes.over c s (a.over c s l tt) tt;
     nodes = λ c s l. (
-      let was = get (nodes_of old c) ino in
-      let put = λ (n : Option FlatNode). option_map (λ (m : FlatNode). with_block m i (Here (new i)) (slice_index mid.uses ino)) n in
-      p.changes.nodes c s (a.over c s l tt)
-      ∙ ap (λ ns. with_node ns ino (put (get ns ino))) (a.nodes c s l)
-      ∙ ap (λ n. with_node (with_node (nodes_of old c) ino (Some (patched size now first i new was))) ino (put n)) (with_node-same (nodes_of old c) ino (Some (patched size now first i new was)))
-      ∙ with_twice (nodes_of old c) ino (Some (patched size now first i new was)) (put (Some (patched size now first i new was)))
-      ∙ ap (λ n. with_node (nodes_of old c) ino (Some n)) (patched_more size now (slice_index mid.uses ino) first i new was low within used));
+        let was = get (nodes_of old c) ino in
+        let put = λ (n : Option FlatNode). option_map (λ (m : FlatNode). with_block m i (Here (new i)) (slice_index mid.uses ino)) n in
+        p.changes.nodes c s (a.over c s l tt)
+        ∙ ap (λ ns. with_node ns ino (put (get ns ino))) (a.nodes c s l)
+        ∙ ap (λ n. with_node (with_node (nodes_of old c) ino (Some (patched size now first i new was))) ino (put n)) (with_node-same (nodes_of old c) ino (Some (patched size now first i new was)))
+        ∙ with_twice (nodes_of old c) ino (Some (patched size now first i new was)) (put (Some (patched size now first i new was)))
+        ∙ ap (λ n. with_node (nodes_of old c) ino (Some n)) (patched_more size now (slice_index mid.uses ino) first i new was low within used));
   }
 
   -- A FILE IS CHANGED behind reads
@@ -99,11 +96,11 @@ module _ {M : Type 0} where
       → ReadsNodes history old mid → Runs (history old.log.machine) (history mid.log.machine) IsUnchanged → ChangesNode mid new ino Always f
       → OfFile history old ino (λ c shelf file. f (Some (file_node file)) ≡ Some (file_node (change shelf file))) → ChangesFile history old new ino change
   made_file history old mid new ino f change reads run made same h told c lies shelf file shows has = (
-      (λ k k_told.
-      let mid_told : history mid.log.machine ≡ Some k = ap history (sym (machine_stays mid new made.beside)) ∙ k_told in
-      subst (λ s. LiesOver new c s) (sym (ends_of_run (history old.log.machine) (history mid.log.machine) IsUnchanged run h told k mid_told)) (made.over c (state_now h) (reads.keeps h told c lies).over tt)),
-      made.nodes c (state_now h) (reads.keeps h told c lies).over
-      ∙ ap (λ ns. with_node ns ino (f (get ns ino))) (reads.keeps h told c lies).nodes
-      ∙ ap (λ x. with_node (nodes_of old c) ino (f x)) has.has
-      ∙ ap (with_node (nodes_of old c) ino) (same h told c lies shelf file shows has),
-    )
+    (λ k k_told.
+        let mid_told : history mid.log.machine ≡ Some k = ap history (sym (machine_stays mid new made.beside)) ∙ k_told in
+        subst (λ s. LiesOver new c s) (sym (ends_of_run (history old.log.machine) (history mid.log.machine) IsUnchanged run h told k mid_told)) (made.over c (state_now h) (reads.keeps h told c lies).over tt)),
+    made.nodes c (state_now h) (reads.keeps h told c lies).over
+        ∙ ap (λ ns. with_node ns ino (f (get ns ino))) (reads.keeps h told c lies).nodes
+        ∙ ap (λ x. with_node (nodes_of old c) ino (f x)) has.has
+        ∙ ap (with_node (nodes_of old c) ino) (same h told c lies shelf file shows has),
+  )

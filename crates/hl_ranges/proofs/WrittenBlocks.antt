@@ -1,8 +1,8 @@
 -- The blocks of a file's bytes that a write and a cut change.
-use Rattle.std.proofs.Common.{arith, ◌≡◌, ℕ, ◌+◌, ◌-◌, ◌*◌, ◌/◌, ◌%◌, ◌<◌, ◌≤◌, List, ◌++◌, length, take, drop, replicate, get_or, max, min, inl, inr, ◌∙◌, ap, sym, length-append}
+use Rattle.std.proofs.Common.{arith, ◌≡◌, ℕ, ◌+◌, ◌-◌, ◌*◌, ◌/◌, ◌%◌, ◌<◌, ◌≤◌, List, ◌++◌, length, take, drop, get_or, max, min, inl, inr, ◌∙◌, ap, sym, length-append}
 use Rattle.std.proofs.lemmas.Bool.{cases_lt}
 use Rattle.std.proofs.lemmas.Grind.{same_number_lists}
-use Rattle.std.proofs.lemmas.List.{get_or-take, get_or-drop, get_or_append_left, get_or-append_right, get_or-replicate, get_or_past, length-take, length-drop}
+use Rattle.std.proofs.lemmas.List.{get_or-take, get_or-drop, get_or_append_left, get_or-append_right, get_or_past, length-take, length-drop}
 use Rattle.hl_tree.specs.Contents.{resized, written}
 use Rattle.hl_tree.proofs.Contents.{length-resized}
 use Rattle.hl_tree_laws.proofs.Contents.{get_or-resized, written_before, written_behind}

@@ -1,19 +1,17 @@
 -- What is read and changed of a file.
-use Rattle.std.specs.Prelude.{◌≡◌, ◌⊎◌, ℕ, ◌+◌, ◌≤◌, List, ◌++◌, Option, Some}
-use Rattle.std.specs.FinMap.{get}
+use Rattle.std.specs.Prelude.{◌≡◌, ℕ, List, ◌++◌, Option, Some}
 use Rattle.hl_media.specs.Causes.{Rose}
 use Rattle.hl_media.specs.History.{History}
 use Rattle.hl_media.specs.Moments.{Now}
 use Rattle.hl_tree.specs.Contents.{read_at}
 use Rattle.hl_placed.specs.Blocks.{PlacedFile, Shelf, plain_bytes}
-use Rattle.hl_nodes.specs.Contents.{Contents}
 use Rattle.hl_overlaid.specs.NodesNow.{with_node}
 use Rattle.hl_store.specs.Values.{StoreValue, nodes_of}
 use Rattle.hl_store.specs.Lying.{LiesOver}
 use Rattle.hl_store.specs.Finding.{ReadsNodes}
 use Rattle.hl_ranges.specs.declared.ranges.RangeStep.{RangeStep}
 use Rattle.hl_ranges.specs.declared.ranges.RangeStep.TheVariants as step
-use Rattle.hl_ranges.specs.Files.{HasFile, LinesShow, OfFile, file_node}
+use Rattle.hl_ranges.specs.Files.{OfFile, file_node}
 
 module _ {M : Type 0} where
   -- What a read appends: the bytes of the range. Else nothing is appended.

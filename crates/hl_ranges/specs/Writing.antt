@@ -1,5 +1,5 @@
 -- What a write and a cut do on their way.
-use Rattle.std.specs.Prelude.{◌≡◌, ℕ, ◌+◌, ◌-◌, ◌*◌, ◌/◌, ◌%◌, ◌<◌, ◌≤◌, ◌==◌, ◌&&◌, Bool, true, false, not, nat_le, nat_lt, if◌then◌else◌, List, length, take, drop, Option, Some, None}
+use Rattle.std.specs.Prelude.{◌≡◌, ℕ, ◌+◌, ◌-◌, ◌*◌, ◌/◌, ◌%◌, ◌<◌, ◌≤◌, ◌==◌, ◌&&◌, Bool, true, false, not, nat_le, nat_lt, if◌then◌else◌, List, length, take, drop, Option, Some}
 use Rattle.hl_media.specs.Causes.{Rose}
 use Rattle.hl_media.specs.History.{History}
 use Rattle.hl_inode.specs.declared.inode.Kind.TheVariants as kinds
@@ -7,7 +7,6 @@ use Rattle.hl_tree.specs.Contents.{resized, written}
 use Rattle.hl_placed.specs.Blocks.{Here, PlacedFile, Shelf, blocks_of, file_block, is_hole, listed, padded_block, plain_bytes}
 use Rattle.hl_placed.specs.Changes.{covers, cuts}
 use Rattle.hl_paths.specs.Nodes.{FlatNode}
-use Rattle.hl_overlay.specs.declared.draft.Shape.{Shape}
 use Rattle.hl_overlaid.specs.NodesNow.{old_block}
 use Rattle.hl_store.specs.Values.{StoreValue}
 use Rattle.hl_store.specs.Changes.{Always, ChangesNode, drafted_shape}

@@ -60,11 +60,7 @@ pub fn write_range<M: Machine>(
 }
 
 /// The size of a file. What isn't a file counts as want of memory.
-fn file_size<M: Machine>(
-    store: &mut Store<M>,
-    alloc: Global,
-    ino: u32,
-) -> Result<u64, RangeStep>
+fn file_size<M: Machine>(store: &mut Store<M>, alloc: Global, ino: u32) -> Result<u64, RangeStep>
     requires number { IsNumber store.old ino }
     ensures size { IfOk result (FindsSize M.history store.old store.new ino) }
     ensures stops { IfErr result (Stops M.faults store.old store.new) }

@@ -1,4 +1,4 @@
-use Rattle.std.proofs.Common.{◌+◌, ◌/◌, if◌then◌else◌, List, length, Some}
+use Rattle.std.proofs.Common.{◌+◌, ◌/◌, if◌then◌else◌, Some}
 use Rattle.hl_placed.specs.Changes.{cut_file}
 use Rattle.hl_ranges.specs.Writing.{patched}
 use Rattle.hl_ranges.proofs.FoundFiles.{reads_both, reads_then}

@@ -1,4 +1,4 @@
-use Rattle.std.proofs.Common.{◌≡◌, ◌+◌, ◌*◌, ◌/◌, ◌%◌, ◌<◌, ◌≤◌, ℕ, Bool, if◌then◌else◌, Some, ap, sym, subst, arith}
+use Rattle.std.proofs.Common.{◌+◌, ◌*◌, ◌/◌, ◌%◌, ◌<◌, ◌≤◌, Bool, if◌then◌else◌, Some, sym, subst, arith}
 use Rattle.hl_store.specs.Changes.{Always, ChangesNode}
 use Rattle.hl_ranges.specs.Writing.{patched}
 use Rattle.hl_ranges.proofs.PutSteps.{file_has_block, file_kind, file_there, in_blocks, made_first, made_more}

@@ -1,4 +1,4 @@
-use Rattle.std.proofs.Common.{◌≡◌, ℕ, ◌+◌, ◌-◌, ◌*◌, ◌/◌, ◌≤◌, List, length, take, drop, ◌∙◌, ap, sym, subst, arith}
+use Rattle.std.proofs.Common.{◌≡◌, ℕ, ◌+◌, ◌-◌, ◌*◌, List, length, ◌∙◌, sym, subst, arith}
 use Rattle.hl_placed.specs.Blocks as blocks
 use Rattle.hl_store.specs.Changes.{Always, PutsInto}
 use Rattle.hl_ranges.proofs.NewBlocks.{covers_low, covers_high, new_covered, new_front, new_back}

@@ -1,7 +1,6 @@
 use Rattle.std.proofs.Common.{◌≡◌, ◌+◌, ◌≤◌, Some}
 use Rattle.std.specs.Prelude.{slice_index}
 use Rattle.hl_inode.specs.declared.inode.Kind.TheVariants as kinds
-use Rattle.hl_store.specs.Shapes.{IsNumber}
 use Rattle.hl_store.specs.Changes.{Always, ChangesNode, drafted_shape}
 use Rattle.hl_ranges.specs.Writing.{new_block, patched}
 use Rattle.hl_ranges.proofs.writing.put_written.Given as goal

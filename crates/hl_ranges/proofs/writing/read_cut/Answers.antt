@@ -1,6 +1,4 @@
-use Rattle.std.proofs.Common.{◌≡◌, ◌+◌, ◌-◌, ◌*◌, ◌/◌, ◌%◌, ◌<◌, ◌≤◌, ◌⊎◌, inl, inr, ℕ, true, false, true≢false, List, length, ◌∙◌, ap, sym, subst, arith}
-use Rattle.hl_placed.specs.Blocks.{PlacedFile, plain_bytes}
-use Rattle.hl_ranges.proofs.WrittenBlocks.{cut_is}
+use Rattle.std.proofs.Common.{◌%◌, ◌<◌, inl, inr, arith}
 use Rattle.hl_ranges.proofs.CutBlocks.{cuts_edge, cuts_none}
 use Rattle.hl_ranges.proofs.writing.read_cut.Goals as goal
 use Rattle.hl_ranges.proofs.writing.read_cut.Goals.{then-before-size-via-then-before-size, then-before-size-via-else-before-size+then-size-eq0}

@@ -1,4 +1,4 @@
-use Rattle.std.proofs.Common.{◌+◌, ◌/◌, if◌then◌else◌, List, length, Some}
+use Rattle.std.proofs.Common.{◌+◌, ◌/◌, length, Some}
 use Rattle.hl_placed.specs.Changes.{written_file}
 use Rattle.hl_ranges.specs.Writing.{new_block, patched}
 use Rattle.hl_ranges.proofs.FoundFiles.{reads_both, reads_then}
