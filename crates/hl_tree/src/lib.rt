@@ -14,5 +14,5 @@ mod rows;
 pub use call::{Call, Limits, Refusal, Reply};
 pub use list::{Copied, List};
 pub use node::Node;
-pub use path::Path;
+pub use path::{Path, below, is_too_long};
 pub use plain::PlainTree;
