@@ -19,7 +19,7 @@ use Rattle.hl_tree.specs.Names.{path_cmp, path_length, is_too_long, below, put_u
 use Rattle.hl_tree.specs.Moved.{put_all, kept_rows}
 use Rattle.hl_tree.specs.Tree.{moved, moved_entries, content_at}
 use Rattle.hl_tree.specs.Rules.{Files, Outcome, outcome, tree_of, after, make, write, cut, read, stat, list, unlink, rmdir, rename}
-use Rattle.hl_tree.proofs.Below.{append-below}
+use Rattle.hl_tree.proofs.NamesBelow.{append-below}
 use Rattle.hl_tree.proofs.Contents.{length-resized}
 use Rattle.hl_tree_laws.proofs.Contents.{length-written}
 use Rattle.hl_tree.proofs.Maps.{path_total, path_exact, entries-remove}

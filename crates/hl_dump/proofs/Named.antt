@@ -17,7 +17,7 @@ use Rattle.hl_tree.specs.Names.{IsName, AreNames, path_cmp, below, put_under, mo
 use Rattle.hl_tree.specs.Tree.{moved, moved_entries, content_at}
 use Rattle.hl_tree.specs.Rules.{Files, Outcome, outcome, tree_of, after, make, write, cut, read, stat, list, unlink, rmdir, rename}
 use Rattle.hl_tree_laws.proofs.After.{IsTree-after}
-use Rattle.hl_tree.proofs.Below.{All-below}
+use Rattle.hl_tree.proofs.NamesBelow.{All-below}
 use Rattle.hl_tree.proofs.Maps.{path_total, entries-remove}
 use Rattle.hl_tree.proofs.Room.{outcome-fits}
 use Rattle.hl_tree.proofs.Sorted.{entries-moved, view_entries}

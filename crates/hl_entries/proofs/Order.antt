@@ -5,7 +5,7 @@ use Rattle.std.specs.declared.cmp.Ordering.TheVariants.{Less, Equal, Greater}
 use Rattle.std.specs.Ordering.{is_eq, is_lt, ordering_reverse}
 use Rattle.std.specs.Cmp.Lexicographic.{nat_list_cmp_total}
 use Rattle.std.specs.FinMap.Entries.{below_all, is_sorted}
-use Rattle.hl_tree.proofs.Below.{name_cmp}
+use Rattle.hl_tree.proofs.NamesBelow.{name_cmp}
 use Rattle.hl_dir.specs.declared.entry.Entry.{Entry}
 use Rattle.hl_dir.specs.Dirs.{IsBefore, AreEntries}
 use Rattle.hl_paths.specs.Links.{same_name}

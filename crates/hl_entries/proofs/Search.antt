@@ -6,7 +6,7 @@ use Rattle.std.specs.declared.cmp.Ordering.TheVariants.{Less, Equal, Greater}
 use Rattle.std.specs.Ordering.{ordering_reverse}
 use Rattle.std.specs.Cmp.Lexicographic.{nat_list_cmp_total}
 use Rattle.hl_bytes.specs.Fields.{u32_at}
-use Rattle.hl_tree.proofs.Below.{name_cmp, name_exact}
+use Rattle.hl_tree.proofs.NamesBelow.{name_cmp, name_exact}
 use Rattle.hl_dir.specs.declared.entry.Entry.{Entry}
 use Rattle.hl_dir.specs.Dirs.{IsBefore, HasRoom, AreEntries, Spells, dir_bytes}
 use Rattle.hl_paths.specs.Entries.{entry_names}

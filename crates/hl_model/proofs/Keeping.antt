@@ -50,7 +50,7 @@ use Rattle.hl_model.proofs.CacheSteps.{found_passes, free_slot, ok_found, staged
 use Rattle.hl_model.proofs.Sets.{is_there, left_true, set_alike}
 use Rattle.hl_model.proofs.Shelves.{keeps_bound, keeps_dropped, keeps_home, keeps_moved, keeps_staged}
 use Rattle.hl_model.proofs.Victims.{victim_state}
-use Rattle.hl_tree.proofs.Below.{equal}
+use Rattle.hl_tree.proofs.NamesBelow.{equal}
 
 -- a line that holds the same segment claims the same
 keeps_alike : (may : ℕ → List ℕ → Type 0) (line_bytes : ℕ → List ℕ) (slots : List Slot) (lines : List LineState) (shelf : Shelf) → KeepsPlaces may line_bytes slots lines shelf

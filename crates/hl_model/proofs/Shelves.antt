@@ -4,7 +4,7 @@ use Rattle.std.specs.Prelude.{IsSome, Contains}
 use Rattle.std.specs.Ordering.{nat_cmp, eq_by_cmp, is_eq}
 use Rattle.std.specs.Cmp.{tied_itself, nat_cmp_total}
 use Rattle.std.specs.FinMap.{get, insert, get-insert, nat_cmp-IsAntisymmetric}
-use Rattle.hl_tree.proofs.Below.{equal}
+use Rattle.hl_tree.proofs.NamesBelow.{equal}
 use Rattle.hl_placed.specs.Blocks.{Shelf}
 use Rattle.hl_tseg.specs.declared.slot.Slot.{Slot}
 use Rattle.hl_tseg.specs.declared.slot.Slot.TheVariants.{Free, Staged, Home, Spoilt}

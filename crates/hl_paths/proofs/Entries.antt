@@ -7,7 +7,7 @@ use Rattle.std.specs.Ordering.{is_lt}
 use Rattle.std.specs.Cmp.{eq_by_cmp_equiv}
 use Rattle.std.specs.Cmp.Lexicographic.{nat_list_cmp_total}
 use Rattle.std.specs.FinMap.Entries.{by_order, find, put, where_key, below_all, is_sorted, is_sorted-put, is_sorted-where_key, find-put, find-where_key}
-use Rattle.hl_tree.proofs.Below.{name_cmp, name_exact}
+use Rattle.hl_tree.proofs.NamesBelow.{name_cmp, name_exact}
 use Rattle.hl_dir.specs.declared.entry.Entry.{Entry}
 use Rattle.hl_dir.specs.Dirs.{IsName, AreNames, IsBefore, AreOrdered, HasRoom, AreEntries}
 use Rattle.hl_paths.specs.Links.{same_name}

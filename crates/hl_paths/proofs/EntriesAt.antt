@@ -7,7 +7,7 @@ use Rattle.std.specs.Cmp.{tied_itself}
 use Rattle.std.specs.Cmp.Lexicographic.{nat_list_cmp_total}
 use Rattle.std.specs.List.{insert, remove}
 use Rattle.std.specs.FinMap.Entries.{by_order, below_all, is_sorted}
-use Rattle.hl_tree.proofs.Below.{name_cmp}
+use Rattle.hl_tree.proofs.NamesBelow.{name_cmp}
 use Rattle.hl_dir.specs.declared.entry.Entry.{Entry}
 use Rattle.hl_paths.specs.Links.{same_name}
 use Rattle.hl_paths.specs.Entries.{entry_number, with_entry, without_entry}

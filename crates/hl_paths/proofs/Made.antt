@@ -6,7 +6,7 @@ use Rattle.std.specs.FinMap.{get, insert, get-insert}
 use Rattle.hl_tree.specs.Names.{below}
 use Rattle.hl_tree.specs.Tree.{Tree}
 use Rattle.hl_tree.proofs.Maps.{path_total}
-use Rattle.hl_tree.proofs.Below.{append-below}
+use Rattle.hl_tree.proofs.NamesBelow.{append-below}
 use Rattle.hl_tree.proofs.Moved.{Names, same}
 use Rattle.hl_dir.specs.declared.entry.Entry.{Entry}
 use Rattle.hl_dir.specs.Dirs.{AreEntries}

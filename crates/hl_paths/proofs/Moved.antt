@@ -5,7 +5,7 @@ use Rattle.std.specs.Option.{option_map}
 use Rattle.std.specs.FinMap.{get, insert}
 use Rattle.hl_tree.specs.Names.{below}
 use Rattle.hl_tree.specs.Tree.{Tree, moved}
-use Rattle.hl_tree.proofs.Below.{append-below}
+use Rattle.hl_tree.proofs.NamesBelow.{append-below}
 use Rattle.hl_tree.proofs.Moved.{Names, below-append}
 use Rattle.hl_tree_laws.proofs.Moved.{moved_get, get-moved}
 use Rattle.hl_tree_laws.proofs.MovedTree.{below-more, apart_paths}

@@ -5,7 +5,7 @@ use Rattle.std.specs.Ordering.{is_lt}
 use Rattle.std.specs.FinMap.{get}
 use Rattle.std.specs.FinMap.Entries.{below_all, is_sorted}
 use Rattle.hl_tree.specs.Tree.{Tree, names_in}
-use Rattle.hl_tree.proofs.Below.{name_cmp}
+use Rattle.hl_tree.proofs.NamesBelow.{name_cmp}
 use Rattle.hl_tree.proofs.Moved.{Names}
 use Rattle.hl_tree_laws.proofs.NamesIn.{as_entries, contains_name, names_rise, names_in-is}
 use Rattle.hl_dir.specs.declared.entry.Entry.{Entry}

@@ -5,7 +5,7 @@ use Rattle.std.specs.Ordering.{nat_cmp, is_eq}
 use Rattle.std.specs.Cmp.{tied_itself, nat_cmp_total}
 use Rattle.std.specs.FinMap.{nat_cmp-IsAntisymmetric}
 use Rattle.hl_tree.specs.Names.{below}
-use Rattle.hl_tree.proofs.Below.{equal}
+use Rattle.hl_tree.proofs.NamesBelow.{equal}
 use Rattle.hl_tree.proofs.Moved.{Names, below-append}
 use Rattle.hl_tree_laws.proofs.MovedTree.{below-more}
 use Rattle.hl_paths.specs.Links.{Links, step, follow, resolve, joined, same_name, same_number, relinked}

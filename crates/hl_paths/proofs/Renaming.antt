@@ -14,7 +14,7 @@ use Rattle.hl_tree.specs.Names.{path_cmp, below}
 use Rattle.hl_tree.specs.Refusals.{◌>>=◌, refused_if}
 use Rattle.hl_tree.specs.Rules as rules
 use Rattle.hl_tree.specs.Tree.{Tree, walk_to_parent, moved}
-use Rattle.hl_tree.proofs.Below.{append-below}
+use Rattle.hl_tree.proofs.NamesBelow.{append-below}
 use Rattle.hl_tree.proofs.Moved.{Names}
 use Rattle.hl_dir.specs.declared.entry.Entry.{Entry}
 use Rattle.hl_dir.specs.Dirs.{IsName, HaveRoom}

@@ -13,7 +13,7 @@ use Rattle.hl_tree.specs.OtherContents.{node_map}
 use Rattle.hl_tree.specs.OtherContents.{changed_at}
 use Rattle.hl_tree_laws.proofs.Lookups.{same_tree}
 use Rattle.hl_tree.proofs.Moved.{Names}
-use Rattle.hl_tree.proofs.Below.{equal}
+use Rattle.hl_tree.proofs.NamesBelow.{equal}
 use Rattle.hl_placed.specs.Blocks.{Block, Hole, Here, Away, PlacedFile, IsPlacedFile, AwaysAre, SerialsAre, Shelf, byte_of, file_block, plain_bytes}
 use Rattle.hl_placed.specs.Placed.{PlacedTree, EachFile, ArePlaced, plain}
 use Rattle.hl_placed.specs.Staging.{Spot, with_file_block, put_away, HoldsBlocks, IsNewSerial}

@@ -1,4 +1,3 @@
-pub mod Below
 pub mod Children
 pub mod Contents
 pub mod Lookups
@@ -6,6 +5,7 @@ pub mod Maps
 pub mod Moved
 pub mod MovedPaths
 pub mod MovedRows
+pub mod NamesBelow
 pub mod Places
 pub mod Room
 pub mod Sorted

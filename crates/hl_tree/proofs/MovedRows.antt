@@ -12,7 +12,7 @@ use Rattle.hl_tree.specs.Names.{path_cmp, below, moved_path, put_under}
 use Rattle.hl_tree.specs.Tree.{moved_entries}
 use Rattle.hl_tree.specs.Places.{InOrder, IsAround}
 use Rattle.hl_tree.specs.Moved.{put_all, kept_rows, moving_rows, moved_rows_of, moved_keys, with_keys}
-use Rattle.hl_tree.proofs.Below.{name_cmp, append-below}
+use Rattle.hl_tree.proofs.NamesBelow.{name_cmp, append-below}
 use Rattle.hl_tree.proofs.Maps.{path_total, path_exact}
 use Rattle.hl_tree.proofs.Moved.{Names, same, same_is, below-append, path_cmp-append}
 use Rattle.hl_tree.proofs.Places.{All-head, all_above, put_past, put_above}

@@ -76,7 +76,7 @@ impl Path {
 }
 
 /// What is left of `other` below `path`.
-#[tactic(auto, using(crate::proofs::Below::below_same, crate::proofs::Below::below_other, crate::proofs::Below::below_short, crate::proofs::Below::below_end))]
+#[tactic(auto, using(crate::proofs::NamesBelow::below_same, crate::proofs::NamesBelow::below_other, crate::proofs::NamesBelow::below_short, crate::proofs::NamesBelow::below_end))]
 pub fn below<'a>(path: &[List<u8>], other: &'a [List<u8>]) -> Option<&'a [List<u8>]>
     ensures { option_copied result ≡ rest_below path.now other.now }
 {

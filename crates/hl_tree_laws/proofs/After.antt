@@ -15,7 +15,7 @@ use Rattle.hl_tree.specs.Names.{path_cmp, below}
 use Rattle.hl_tree.specs.Tree.{IsTree, moved, walk, walk_to_parent, content_at, names_in}
 use Rattle.hl_tree.specs.Rules.{Files, Outcome, outcome, tree_of, after, make, write, cut, read, stat, list, unlink, rmdir, rename, replaced, is_directory}
 use Rattle.hl_tree.proofs.Maps.{path_total}
-use Rattle.hl_tree.proofs.Below.{append-below}
+use Rattle.hl_tree.proofs.NamesBelow.{append-below}
 use Rattle.hl_tree.proofs.Moved.{Names}
 use Rattle.hl_tree_laws.proofs.NamesIn.{contains_name, contains-names_in}
 use Rattle.hl_tree_laws.proofs.Tree.{IsTree-insert, IsTree-remove}

@@ -7,7 +7,7 @@ use Rattle.hl_tree.specs.declared.node.Node.{Node}
 use Rattle.hl_tree.specs.Names.{path_cmp, below, put_under}
 use Rattle.hl_tree.specs.Tree.{Tree, moved, moved_entries}
 use Rattle.hl_tree.proofs.Maps.{path_total, entries-retain_keys}
-use Rattle.hl_tree.proofs.Below.{append-below}
+use Rattle.hl_tree.proofs.NamesBelow.{append-below}
 use Rattle.hl_tree.proofs.Moved.{Names, same, same_is, below-append, path_cmp-append}
 
 true_is_false : true ≡ false → ⊥

@@ -10,7 +10,7 @@ use Rattle.hl_tree.specs.declared.node.Node.TheVariants.{Dir}
 use Rattle.hl_tree.specs.declared.call.Refusal.{Refusal}
 use Rattle.hl_tree.specs.Names.{below}
 use Rattle.hl_tree.specs.Tree.{Tree, IsTree, moved, way_on, in_directory, walk_to_parent}
-use Rattle.hl_tree.proofs.Below.{name_cmp, name_exact, append-below, equal}
+use Rattle.hl_tree.proofs.NamesBelow.{name_cmp, name_exact, append-below, equal}
 use Rattle.hl_tree.proofs.Moved.{Names, below-append}
 use Rattle.hl_tree_laws.proofs.Moved.{get-moved, moved_get}
 

@@ -11,7 +11,7 @@ use Rattle.hl_tree.specs.declared.node.Node.{Node}
 use Rattle.hl_tree.specs.Names.{path_cmp, below, only_name, children}
 use Rattle.hl_tree.specs.Tree.{Tree, names_in}
 use Rattle.hl_tree.proofs.Maps.{path_total}
-use Rattle.hl_tree.proofs.Below.{name_cmp, name_exact, append-below}
+use Rattle.hl_tree.proofs.NamesBelow.{name_cmp, name_exact, append-below}
 use Rattle.hl_tree_laws.proofs.Lookups.{same_tree}
 use Rattle.hl_tree.proofs.Moved.{below-append, path_cmp-append}
 use Rattle.hl_tree_laws.proofs.Moved.{apart}

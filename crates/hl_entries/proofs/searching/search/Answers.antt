@@ -1,5 +1,5 @@
 use Rattle.std.proofs.Common.{arith, ◌≡◌, ◌+◌, ◌-◌, length, take, drop, sym, ap, length-take-le, length-drop}
-use Rattle.hl_tree.proofs.Below.{name_exact}
+use Rattle.hl_tree.proofs.NamesBelow.{name_exact}
 use Rattle.hl_entries.proofs.Search.{begun, passed_on, found_here, missing_here, missing_end}
 use Rattle.hl_entries.proofs.searching.search.Goals as goal
 

@@ -1,7 +1,7 @@
 use Rattle.std.proofs.Common.{◌≡◌, Some, None, All, sym, subst}
 use Rattle.std.specs.Option.{IfSome, option_copied}
 use Rattle.hl_tree.specs.Names.{IsName, AreNames, below}
-use Rattle.hl_tree.proofs.Below.{All-below}
+use Rattle.hl_tree.proofs.NamesBelow.{All-below}
 use Rattle.hl_tree.proofs.moving.moving_rest.Goals as goal
 
 pub returns-in-None-clause-names : goal.returns-in-None-clause-names
