@@ -1,3 +1,4 @@
+pub mod Directories
 pub mod Files
 pub mod Needs
 pub mod Ranges

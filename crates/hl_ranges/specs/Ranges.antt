@@ -1,9 +1,10 @@
 -- What is read and changed of a file.
-use Rattle.std.specs.Prelude.{◌≡◌, ℕ, List, ◌++◌, Option, Some}
+use Rattle.std.specs.Prelude.{◌≡◌, ℕ, List, ◌++◌, slice_set, Option, Some}
 use Rattle.hl_media.specs.Causes.{Rose}
 use Rattle.hl_media.specs.History.{History}
 use Rattle.hl_media.specs.Moments.{Now}
 use Rattle.hl_tree.specs.Contents.{read_at}
+use Rattle.hl_log.specs.Logs.{with_machine}
 use Rattle.hl_placed.specs.Blocks.{PlacedFile, Shelf, plain_bytes}
 use Rattle.hl_overlaid.specs.NodesNow.{with_node}
 use Rattle.hl_store.specs.Values.{StoreValue, nodes_of}
@@ -34,3 +35,20 @@ module _ {M : Type 0} where
   MakesChange history faults old new ino change step.DiskFault =
       ReadsNodes history old new × Rose (faults old.log.machine) (faults new.log.machine)
   MakesChange history faults old new ino change step.Memory = ReadsNodes history old new
+
+  -- Besides the nodes at most the machine, drafts, what is counted of nodes and last uses have changed; the number was used
+  -- at this moment, and no other was.
+  pub record StaysBeside (old new : StoreValue M) (ino now : ℕ) : Type 0 where
+    pub same : new ≡ record old {
+      log = with_machine old.log new.log.machine;
+      overlay = new.overlay;
+      uses = new.uses;
+      tally = new.tally;
+    }
+    pub uses : new.uses ≡ slice_set old.uses ino now
+
+  -- so it is where a change was made
+  abbrev pub UsesThen : StoreValue M → StoreValue M → ℕ → ℕ → RangeStep → Type 0
+  UsesThen old new ino now step.Done = StaysBeside old new ino now
+  UsesThen old new ino now step.DiskFault = Unit {0}
+  UsesThen old new ino now step.Memory = Unit {0}

@@ -4,11 +4,13 @@
 //! the bytes, and `write_range` and `cut_range` change the file, by reading and putting the blocks that they touch alone.
 #![tactic(auto)]
 
+mod directories;
 mod needs;
 mod ranges;
 mod reading;
 mod writing;
 
+pub use directories::{DirectoryFound, put_directory, read_directory};
 pub use needs::{Needed, cut_needs, read_needs, write_needs};
 pub use ranges::RangeStep;
 pub use reading::read_range;

@@ -8,7 +8,7 @@ ghost use Rattle.hl_overlay.specs.DraftTables.{HasBlock, draft_of};
 ghost use Rattle.hl_store.specs.Shapes.{IsNumber};
 ghost use Rattle.hl_store.specs.Finding.{ReadsNodes};
 ghost use Rattle.hl_store.specs.Changes.{Always, PutsInto};
-ghost use Rattle.hl_ranges.specs.Ranges.{MakesChange};
+ghost use Rattle.hl_ranges.specs.Ranges.{MakesChange, UsesThen};
 ghost use Rattle.hl_ranges.specs.Writing.{CutsEdge, FindsSize, IsDraftedFile, PutsPart, ReadsEdge, ReadsEdges, ReadsNew, ReadsSide};
 ghost use Rattle.hl_ranges.specs.Writing.{IsWithin, MakesCut, MakesWritten, Stops, new_block};
 
@@ -35,6 +35,7 @@ pub fn write_range<M: Machine>(
     requires within { at + length bytes.now ≤ 4243456 }
     ensures change { MakesChange M.history M.faults store.old store.new ino
         (λ shelf file. written_file shelf file at bytes.now now) result }
+    ensures beside { UsesThen store.old store.new ino now result }
     ensures machine { OnlyReads M.history M.blocks M.faults M.write_faults M.say_faults
         store.old.log.machine store.new.log.machine }
 {
@@ -322,6 +323,7 @@ pub fn cut_range<M: Machine>(
     requires size { size ≤ 4243456 }
     ensures change { MakesChange M.history M.faults store.old store.new ino
         (λ shelf file. cut_file shelf file size now) result }
+    ensures beside { UsesThen store.old store.new ino now result }
     ensures machine { OnlyReads M.history M.blocks M.faults M.write_faults M.say_faults
         store.old.log.machine store.new.log.machine }
 {

@@ -26,7 +26,7 @@ use Rattle.hl_overlaid.proofs.PutLemmas.{mapped, mapped_none}
 use Rattle.hl_store.specs.Values.{StoreValue, layout, nodes_of, overlaid}
 use Rattle.hl_store.specs.Lying.{LiesOver, block_of_number}
 use Rattle.hl_store.specs.Finding.{HasNodeFound, KeepsNodes, OverNow}
-use Rattle.hl_store.specs.Changes.{IsDraftedAs}
+use Rattle.hl_store.specs.Changes.{IsDraftedAs, drafted_shape}
 use Rattle.hl_store.specs.Seats.{Seats}
 
 -- what is something is there
@@ -151,3 +151,8 @@ module _ {M : Type 0} (history : M → Option History) (old new : StoreValue M) 
         shape = ap (option_map (λ (x : NodeDraft). x.shape)) at_new ∙ ap Some is;
         size = (is_draft_of new.overlay.drafts ino d seats.whole.table at_new).size shape is;
       }
+
+  -- and it is of none where none was found
+  pub undrafted_in : (t : StoreValue M) → t ≡ new → (d : NodeDraft) → Some d ≡ draft_of t.overlay.drafts ino → d.shape ≡ None → drafted_shape new ino ≡ Some None
+  undrafted_in t is_new d at is =
+      ap (option_map (λ (x : NodeDraft). x.shape)) (ap (λ (v : StoreValue M). draft_of v.overlay.drafts ino) (sym is_new) ∙ sym at) ∙ ap Some is

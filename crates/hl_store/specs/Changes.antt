@@ -1,5 +1,5 @@
 -- What the calls of a store make of its nodes.
-use Rattle.std.specs.Prelude.{◌≡◌, ◌≢◌, ℕ, ◌+◌, ◌<◌, ◌≤◌, IsSome, slice_index, Option, Some, option_map}
+use Rattle.std.specs.Prelude.{◌≡◌, ◌≢◌, ℕ, ◌+◌, ◌<◌, ◌≤◌, IsSome, slice_index, Option, Some, None, option_map}
 use Rattle.std.specs.Option.{ForSome}
 use Rattle.std.specs.FinMap.{get}
 use Rattle.hl_media.specs.History.{History, MachineState}
@@ -44,10 +44,10 @@ module _ {M : Type 0} where
     pub shape : drafted_shape v ino ≡ Some (Some (shape_of n))
     pub size : n.size ≤ 4243456
 
-  -- a number whose node was found is drafted as that
+  -- a number whose node was found is drafted as that, and one that isn't in use as none
   abbrev pub DraftsFound : StoreValue M → ℕ → NodeFound → Type 0
   DraftsFound v ino (node.Node n) = IsDraftedAs v ino n
-  DraftsFound v ino node.Unused = Unit {0}
+  DraftsFound v ino node.Unused = drafted_shape v ino ≡ Some None
   DraftsFound v ino node.DiskFault = Unit {0}
   DraftsFound v ino node.Memory = Unit {0}
 

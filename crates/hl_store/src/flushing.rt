@@ -195,7 +195,7 @@ impl<M: Machine> Store<M> {
     ghost use Rattle.hl_store.specs.Values.{IsTidy};
 
     /// Whether the next unit would have nothing.
-    fn is_tidy(&self) -> bool
+    pub fn is_tidy(&self) -> bool
         ensures { IsTrue result ↔ IsTidy self.now }
     {
         self.dirty() == 0 && self.notes.as_slice().is_empty()

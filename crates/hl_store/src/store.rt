@@ -117,6 +117,7 @@ impl<M: Machine> Store<M> {
     ghost use Rattle.std.specs.Prelude.{MatchOption};
     ghost use Rattle.hl_media.specs.History.{Adds, DidSay};
     ghost use Rattle.hl_media.specs.Causes.{HasCause};
+    ghost use Rattle.hl_addr.specs.Layout.{IsWithinLimits};
     ghost use Rattle.hl_log.specs.Logs.{RestStays};
     ghost use Rattle.hl_store.specs.Values.{dirty_of, layout};
     ghost use Rattle.hl_store.specs.Shapes.{IsShaped};
@@ -238,7 +239,8 @@ impl<M: Machine> Store<M> {
 
     /// The site.
     pub fn geometry(&self) -> &Geometry
-        ensures { result.now ≡ layout self.now }
+        ensures is { result.now ≡ layout self.now }
+        ensures limits { IsWithinLimits result.now }
     {
         self.log.geometry()
     }
