@@ -9,6 +9,7 @@ use Rattle.hl_lines.specs.LineTable.{with_touched}
 use Rattle.hl_log.specs.Logs.{with_machine}
 use Rattle.hl_tree.specs.declared.call.Call.{Call}
 use Rattle.hl_tree.specs.declared.call.Reply.{Reply}
+use Rattle.hl_tree.specs.declared.call.Reply.TheVariants as replies
 use Rattle.hl_placed.specs.Blocks.{PlacedFile, Shelf}
 use Rattle.hl_paths.specs.ByNumbers.{NumberedDone, by_numbers, needed, numbered_left, numbered_reply}
 use Rattle.hl_paths.specs.Files.{is_over_quota, is_taken}
@@ -17,11 +18,26 @@ use Rattle.hl_nodes.specs.Contents.{Contents}
 use Rattle.hl_store.specs.Values.{StoreValue, dirty_of, layout, nodes_of}
 use Rattle.hl_store.specs.Lying.{LiesOver}
 use Rattle.hl_store.specs.Finding.{OverNow}
+use Rattle.hl_ranges.specs.declared.ranges.RangeStep.{RangeStep}
+use Rattle.hl_ranges.specs.declared.ranges.RangeStep.TheVariants as range
 use Rattle.hl_ranges.specs.Needs.{AreAtHand, IsFirstMissing}
+use Rattle.hl_walk.specs.declared.walk.Halt.{Halt}
+use Rattle.hl_walk.specs.declared.walk.Halt.TheVariants as halt
 use Rattle.hl_walk.specs.Trees.{AreKnown}
 use Rattle.hl_calls.specs.declared.step.FileStep.{FileStep}
 use Rattle.hl_calls.specs.declared.step.FileStep.TheVariants as step
 use Rattle.hl_calls.specs.Trees.{OfFiles, site_limits}
+
+-- how a call ends whose walk halts, or whose reading or changing of bytes stops
+abbrev pub halted_step : Halt → FileStep
+halted_step (halt.Refused why) = step.Done (replies.Refused why)
+halted_step halt.DiskFault = step.DiskFault
+halted_step halt.Memory = step.Memory
+
+abbrev pub stopped_step : RangeStep → FileStep
+stopped_step range.Done = step.Memory
+stopped_step range.DiskFault = step.DiskFault
+stopped_step range.Memory = step.Memory
 
 -- the segments whose bytes a call reads, if the rules accept it
 abbrev pub needed_by : Numbering PlacedFile → Call → NumberedDone PlacedFile → List ℕ

@@ -1,6 +1,11 @@
 //! How a file call ends.
 
+ghost use Rattle.std.specs.Prelude.{◌≡◌};
+ghost use Rattle.hl_calls.specs.Calls.{halted_step, stopped_step};
+
+use hl_ranges::RangeStep;
 use hl_tree::Reply;
+use hl_walk::Halt;
 
 /// The most bytes that a file may have.
 pub const FILE_MAX: u64 = 4_243_456;
@@ -18,4 +23,27 @@ pub enum FileStep {
     DiskFault,
     /// Memory was wanting.
     Memory,
+}
+
+impl FileStep {
+    /// How a call ends whose walk halts.
+    pub fn halted(halt: Halt) -> FileStep
+        ensures { result ≡ halted_step halt }
+    {
+        match halt {
+            Halt::Refused(why) => FileStep::Done(Reply::Refused(why)),
+            Halt::DiskFault => FileStep::DiskFault,
+            Halt::Memory => FileStep::Memory,
+        }
+    }
+
+    /// How a call ends whose reading or changing of bytes stops.
+    pub fn stopped(step: RangeStep) -> FileStep
+        ensures { result ≡ stopped_step step }
+    {
+        match step {
+            RangeStep::Done | RangeStep::Memory => FileStep::Memory,
+            RangeStep::DiskFault => FileStep::DiskFault,
+        }
+    }
 }

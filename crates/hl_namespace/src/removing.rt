@@ -1,0 +1,113 @@
+//! Files and directories taken away.
+
+ghost use Rattle.hl_log.specs.Logs.{OnlyReads};
+ghost use Rattle.hl_tree.specs.declared.call.Call.TheVariants as calls;
+ghost use Rattle.hl_calls.specs.Calls.{MakesCall};
+
+use crate::entries::{Changed, node_of, prepare, refused};
+use hl_calls::FileStep;
+use hl_entries::{find, remove};
+use hl_inode::Kind;
+use hl_media::Machine;
+use hl_store::{Node, Store};
+use hl_tree::{Path, Refusal, Reply, is_too_long};
+use hl_walk::find_parent;
+use std::alloc::Global;
+
+/// Takes a file away. `Enametoolong` comes first, `Eisdir` for the root, `Enotdir` and `Enoent` by the walk, and `Eisdir`
+/// where a directory stands there.
+pub fn unlink<M: Machine>(store: &mut Store<M>, alloc: Global, now: u64, path: &Path) -> FileStep
+    ensures made { MakesCall M.history M.faults store.old store.new now
+        (calls.Unlink path.now) result }
+    ensures machine { OnlyReads M.history M.blocks M.faults M.write_faults M.say_faults
+        store.old.log.machine store.new.log.machine }
+{
+    let _ = now;
+    take(store, alloc, path, Kind::File)
+}
+
+/// Takes an empty directory away. `Enametoolong` comes first, `Einval` for the root, `Enotdir` and `Enoent` by the walk,
+/// `Enotdir` where a file stands there, and `Enotempty`.
+pub fn rmdir<M: Machine>(store: &mut Store<M>, alloc: Global, now: u64, path: &Path) -> FileStep
+    ensures made { MakesCall M.history M.faults store.old store.new now
+        (calls.Rmdir path.now) result }
+    ensures machine { OnlyReads M.history M.blocks M.faults M.write_faults M.say_faults
+        store.old.log.machine store.new.log.machine }
+{
+    let _ = now;
+    take(store, alloc, path, Kind::Dir)
+}
+
+/// Why a node can't be taken away as one of a kind.
+fn why_not(kind: Kind, node: &Node) -> Option<Refusal> {
+    match (kind, node.kind) {
+        (Kind::File, Kind::File) => None,
+        (Kind::File, Kind::Dir) => Some(Refusal::Eisdir),
+        (Kind::Dir, Kind::File) => Some(Refusal::Enotdir),
+        (Kind::Dir, Kind::Dir) => {
+            if node.size == 0 {
+                None
+            } else {
+                Some(Refusal::Enotempty)
+            }
+        }
+    }
+}
+
+/// Takes a node of a kind away, and its name.
+fn take<M: Machine>(store: &mut Store<M>, alloc: Global, path: &Path, kind: Kind) -> FileStep {
+    let names = path.names();
+    if is_too_long(names) {
+        return refused(Refusal::Enametoolong);
+    }
+    let Some(name) = names.last() else {
+        return refused(match kind {
+            Kind::File => Refusal::Eisdir,
+            Kind::Dir => Refusal::Einval,
+        });
+    };
+    let parent = match find_parent(store, alloc, names) {
+        Ok(parent) => parent,
+        Err(halt) => return FileStep::halted(halt),
+    };
+    let Some(place) = find(parent.bytes.as_slice(), name.items()) else {
+        return refused(Refusal::Enoent);
+    };
+    let node = match node_of(store, alloc, place.ino) {
+        Ok(node) => node,
+        Err(step) => return step,
+    };
+    if let Some(why) = why_not(kind, &node) {
+        return refused(why);
+    }
+    let mut bytes = parent.bytes;
+    let Some(from) = remove(&mut bytes, name.items()) else {
+        return FileStep::Memory;
+    };
+    let changed = Changed {
+        number: parent.number,
+        bytes,
+        from,
+    };
+    drop_node(store, alloc, &changed, place.ino)
+}
+
+/// Frees a number, and puts the directory that doesn't name it any more.
+fn drop_node<M: Machine>(
+    store: &mut Store<M>,
+    alloc: Global,
+    changed: &Changed,
+    number: u32,
+) -> FileStep {
+    match changed.prepare(store, alloc) {
+        Ok(()) => {}
+        Err(step) => return step,
+    }
+    match prepare(store, alloc, number, 0, 0) {
+        Ok(()) => {}
+        Err(step) => return step,
+    }
+    changed.put(store);
+    store.free(number);
+    FileStep::Done(Reply::Ok)
+}
