@@ -83,6 +83,16 @@ fn why_not(moving: Kind, target: &Node) -> Option<Refusal> {
     }
 }
 
+/// An entry that moves: from a name of one directory to a name of another, or of the same, where a number may stand.
+struct Move<'a> {
+    parent: ParentFound,
+    name: &'a List<u8>,
+    number: u32,
+    to_parent: ParentFound,
+    to_name: &'a List<u8>,
+    target: Option<u32>,
+}
+
 /// Moves an entry to another path.
 fn move_to<M: Machine>(
     store: &mut Store<M>,
@@ -102,17 +112,140 @@ fn move_to<M: Machine>(
         Ok(to_parent) => to_parent,
         Err(halt) => return FileStep::halted(halt),
     };
-    match find(to_parent.bytes.as_slice(), to_name.items()) {
-        Some(place) => {
-            let target = match node_of(store, alloc, place.ino) {
-                Ok(target) => target,
-                Err(step) => return step,
-            };
-            if let Some(why) = why_not(moving.kind, &target) {
-                return refused(why);
-            }
-            relink(store, alloc, parent, name, moving.number, to_parent, to_name, Some(place.ino))
-        }
-        None => relink(store, alloc, parent, name, moving.number, to_parent, to_name, None),
+    let target = match target_of(store, alloc, moving.kind, &to_parent, to_name) {
+        Ok(target) => target,
+        Err(step) => return step,
+    };
+    let entry = Move {
+        parent,
+        name,
+        number: moving.number,
+        to_parent,
+        to_name,
+        target,
+    };
+    if entry.parent.number == entry.to_parent.number {
+        relink_within(store, alloc, entry)
+    } else {
+        relink_across(store, alloc, entry)
+    }
+}
+
+/// The number that stands at the target, if it may be replaced.
+fn target_of<M: Machine>(
+    store: &mut Store<M>,
+    alloc: Global,
+    moving: Kind,
+    to_parent: &ParentFound,
+    to_name: &List<u8>,
+) -> Result<Option<u32>, FileStep> {
+    let Some(place) = find(to_parent.bytes.as_slice(), to_name.items()) else {
+        return Ok(None);
+    };
+    let target = node_of(store, alloc, place.ino)?;
+    match why_not(moving, &target) {
+        Some(why) => Err(refused(why)),
+        None => Ok(Some(place.ino)),
+    }
+}
+
+/// Moves an entry within its directory.
+fn relink_within<M: Machine>(store: &mut Store<M>, alloc: Global, entry: Move) -> FileStep {
+    let before = entry.parent.bytes.as_slice().len();
+    let mut bytes = entry.parent.bytes;
+    let Some(first) = remove(&mut bytes, entry.name.items()) else {
+        return FileStep::Memory;
+    };
+    let Ok(second) = insert(&mut bytes, entry.to_name.items(), entry.number) else {
+        return FileStep::Memory;
+    };
+    let size = bytes.as_slice().len();
+    let growth = Growth {
+        added: charge_of(size),
+        removed: charge_of(before),
+    };
+    if entry.target.is_none() && is_over(store, &growth) {
+        return FileStep::NoSpace;
+    }
+    let changed = Changed {
+        number: entry.parent.number,
+        bytes,
+        from: first.min(second),
+    };
+    match prepare_both(store, alloc, &changed, None, entry.target) {
+        Ok(()) => {}
+        Err(step) => return step,
+    }
+    changed.put(store);
+    free_target(store, entry.target);
+    FileStep::Done(Reply::Ok)
+}
+
+/// Moves an entry from one directory to another.
+fn relink_across<M: Machine>(store: &mut Store<M>, alloc: Global, entry: Move) -> FileStep {
+    let before = entry.parent.bytes.as_slice().len();
+    let to_before = entry.to_parent.bytes.as_slice().len();
+    let mut bytes = entry.parent.bytes;
+    let mut to_bytes = entry.to_parent.bytes;
+    let Some(from) = remove(&mut bytes, entry.name.items()) else {
+        return FileStep::Memory;
+    };
+    let Ok(to_from) = insert(&mut to_bytes, entry.to_name.items(), entry.number) else {
+        return FileStep::Memory;
+    };
+    let growth = Growth {
+        added: charge_of(bytes.as_slice().len()) + charge_of(to_bytes.as_slice().len()),
+        removed: charge_of(before) + charge_of(to_before),
+    };
+    if entry.target.is_none() && is_over(store, &growth) {
+        return FileStep::NoSpace;
+    }
+    let left = Changed {
+        number: entry.parent.number,
+        bytes,
+        from,
+    };
+    let joined = Changed {
+        number: entry.to_parent.number,
+        bytes: to_bytes,
+        from: to_from,
+    };
+    match prepare_both(store, alloc, &left, Some(&joined), entry.target) {
+        Ok(()) => {}
+        Err(step) => return step,
+    }
+    left.put(store);
+    joined.put(store);
+    free_target(store, entry.target);
+    FileStep::Done(Reply::Ok)
+}
+
+/// What a directory is charged; more bytes than it may have count as the most.
+fn charge_of(size: usize) -> u32 {
+    directory_charge(size.min(FILE_MAX as usize))
+}
+
+/// Brings the directories that change, and the number that goes, to where they can be changed.
+fn prepare_both<M: Machine>(
+    store: &mut Store<M>,
+    alloc: Global,
+    changed: &Changed,
+    other: Option<&Changed>,
+    target: Option<u32>,
+) -> Result<(), FileStep> {
+    changed.prepare(store, alloc)?;
+    if let Some(other) = other {
+        other.prepare(store, alloc)?;
+    }
+    if let Some(number) = target {
+        prepare(store, alloc, number, 0, 0)?;
+    }
+    Ok(())
+}
+
+/// Frees the number that stood at the target.
+fn free_target<M: Machine>(store: &mut Store<M>, target: Option<u32>) {
+    if let Some(number) = target {
+        store.free(number);
     }
 }
