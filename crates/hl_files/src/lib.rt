@@ -1,0 +1,10 @@
+//! The file calls over the store.
+//!
+//! `call` makes each of the eleven calls by the rules of files, reading and changing the nodes that it touches alone.
+#![tactic(auto)]
+
+mod call;
+
+pub use call::call;
+pub use hl_calls::FileStep;
+pub use hl_walk::{FoundPath, find};
