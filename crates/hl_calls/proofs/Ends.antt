@@ -1,7 +1,8 @@
 -- How a call ends that changed nothing.
-use Rattle.std.proofs.Common.{◌≡◌, ℕ, Bool, true, false, nat_lt, List, [], Option, Some, Result, Ok, Err, option_map, refl, ap, ◌∙◌, sym, subst}
+use Rattle.std.proofs.Common.{arith, ◌≡◌, ℕ, Bool, true, false, nat_lt, List, [], Option, Some, Result, Ok, Err, option_map, refl, ap, ◌∙◌, sym, subst}
 use Rattle.std.specs.Prelude.{◌&&◌, slice_index}
 use Rattle.std.specs.FinMap.{get}
+use Rattle.std.proofs.lemmas.Bool.Decides.{nat_tests}
 use Rattle.hl_media.specs.Causes.{Rose}
 use Rattle.hl_media.specs.History.{History, MachineState, state_now}
 use Rattle.hl_media.specs.Moments.{Now, Runs}
@@ -34,7 +35,7 @@ never true = refl
 never false = refl
 
 not_below : (n : ℕ) → nat_lt n n ≡ false
-not_below n = grind
+not_below n = grind (arith, nat_tests)
 
 -- a call that leaves the nodes as they were is over no quota
 pub not_over : (quota : ℕ) (numbered : Numbering PlacedFile) (done : NumberedDone PlacedFile) → numbered_left numbered done ≡ numbered → is_over_quota quota numbered done ≡ false
