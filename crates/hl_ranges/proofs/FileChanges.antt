@@ -3,7 +3,8 @@ use Rattle.std.proofs.Common.{arith, ◌≡◌, ℕ, ◌+◌, ◌*◌, ◌/◌, 
 use Rattle.hl_media.specs.Causes.{Rose}
 use Rattle.hl_media.specs.History.{History}
 use Rattle.hl_media.specs.Moments.{Runs}
-use Rattle.hl_log.specs.Logs.{OnlyReads}
+use Rattle.std.specs.Prelude.{slice_set}
+use Rattle.hl_log.specs.Logs.{OnlyReads, with_machine}
 use Rattle.hl_log.specs.Rest.{IsUnchanged}
 use Rattle.hl_tree.specs.Contents.{written}
 use Rattle.hl_placed.specs.Blocks.{PlacedFile, Shelf, padded_block, plain_bytes}
@@ -13,8 +14,8 @@ use Rattle.hl_store.specs.Finding.{ReadsNodes}
 use Rattle.hl_store.specs.Changes.{KeepsBeside}
 use Rattle.hl_ranges.specs.declared.ranges.RangeStep.{RangeStep}
 use Rattle.hl_ranges.specs.declared.ranges.RangeStep.TheVariants as step
-use Rattle.hl_ranges.specs.Files.{OfFile, file_node}
-use Rattle.hl_ranges.specs.Ranges.{MakesChange}
+use Rattle.hl_ranges.specs.Files.{OfFile, file_node, file_shape}
+use Rattle.hl_ranges.specs.Ranges.{MakesChange, StaysBeside, UsesThen}
 use Rattle.hl_ranges.specs.Writing.{CutsEdge, FindsSize, IsCutBlock, ReadsEdges, Stops, new_block, patched}
 use Rattle.hl_ranges.proofs.FoundFiles.{of_file_before}
 use Rattle.hl_ranges.proofs.PatchedNodes.{patched_cut, patched_written}
@@ -31,6 +32,21 @@ module _ {M : Type 0} where
       rose_since a b c le rose = omega arith
   stopped history faults old mid new ino change step.Memory reads le why = reads
 
+  -- nothing is said of last uses there
+  pub unused_then : (faults : M → ℕ) (old mid new : StoreValue M) (ino now : ℕ) (why : RangeStep) → Stops faults mid new why → UsesThen old new ino now why
+  unused_then faults old mid new ino now step.Done why = absurd why
+  unused_then faults old mid new ino now step.DiskFault why = tt
+  unused_then faults old mid new ino now step.Memory why = tt
+
+  -- WHAT STAYS BESIDE a change behind reads
+  pub beside_then : (history : M → Option History) (old mid new : StoreValue M) (ino now : ℕ) → ReadsNodes history old mid → KeepsBeside mid new → new.uses ≡ slice_set mid.uses ino now → StaysBeside old new ino now
+  beside_then history old mid new ino now reads beside uses = record {
+    same = beside
+        ∙ ap (λ (v : StoreValue M). record v { overlay = new.overlay; uses = new.uses; tally = new.tally }) reads.same
+        ∙ ap (λ m. record old { log = with_machine old.log m; overlay = new.overlay; uses = new.uses; tally = new.tally }) (sym (machine_stays mid new beside));
+    uses = uses ∙ ap (λ (v : StoreValue M). slice_set v.uses ino now) reads.same;
+  }
+
   -- the reads end where the changes do
   pub reads_beside : {history : M → Option History} {blocks faults write_faults say_faults : M → ℕ} (before : M) (mid new : StoreValue M) → KeepsBeside mid new → OnlyReads history blocks faults write_faults say_faults before mid.log.machine
       → OnlyReads history blocks faults write_faults say_faults before new.log.machine
@@ -39,7 +55,7 @@ module _ {M : Type 0} where
   module _ (history : M → Option History) (old mid : StoreValue M) (ino : ℕ) (reads : ReadsNodes history old mid) (run : Runs (history old.log.machine) (history mid.log.machine) IsUnchanged) where
     -- A WRITE: what was put is the file written
     pub written_same : (at : ℕ) (bytes front back : List ℕ) (now before size : ℕ) → 0 < length bytes → FindsSize history old mid ino before → size ≡ max before (at + length bytes) → ReadsEdges history mid ino at bytes front back
-        → OfFile history old ino (λ c shelf file. Some (patched size now (at / 4096) ((at + length bytes + 4095) / 4096) (new_block at bytes front back) (Some (file_node file))) ≡ Some (file_node (written_file shelf file at bytes now)))
+        → OfFile history old ino (λ c shelf file. Some (patched (file_shape size) now (at / 4096) ((at + length bytes + 4095) / 4096) (new_block at bytes front back) (Some (file_node file))) ≡ Some (file_node (written_file shelf file at bytes now)))
     written_same at bytes front back now before size some found size_is edges h told c lies shelf file shows has =
         let before_is : before ≡ file.size = found.is h told c lies shelf file shows has in
         ap Some (patched_written shelf file size at bytes now (new_block at bytes front back) some (size_is ∙ ap (λ n. max n (at + length bytes)) before_is)
@@ -48,7 +64,7 @@ module _ {M : Type 0} where
 
     -- A CUT: so is it the file cut
     pub cut_same : (edge : List ℕ) (now before size : ℕ) (is_cut : Bool) → FindsSize history old mid ino before → CutsEdge history mid ino before size edge is_cut
-        → OfFile history old ino (λ c shelf file. Some (patched size now (size / 4096) (if is_cut then size / 4096 + 1 else size / 4096) (λ j. edge) (Some (file_node file))) ≡ Some (file_node (cut_file shelf file size now)))
+        → OfFile history old ino (λ c shelf file. Some (patched (file_shape size) now (size / 4096) (if is_cut then size / 4096 + 1 else size / 4096) (λ j. edge) (Some (file_node file))) ≡ Some (file_node (cut_file shelf file size now)))
     cut_same edge now before size is_cut found cut h told c lies shelf file shows has =
         let before_is : before ≡ file.size = found.is h told c lies shelf file shows has in
         ap Some (patched_cut shelf file size edge now is_cut

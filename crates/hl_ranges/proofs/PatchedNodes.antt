@@ -1,4 +1,4 @@
--- Files with some blocks put.
+-- Nodes with some blocks put.
 use Rattle.std.proofs.Common.{arith, ◌≡◌, ◌≢◌, ◌⊎◌, ℕ, ◌+◌, ◌*◌, ◌/◌, ◌%◌, ◌<◌, ◌≤◌, Bool, true, false, true≢false, ◌&&◌, not, nat_lt, nat_le, List, length, get_or, max, inl, inr, Option, Some, refl, ◌∙◌, ap, sym, subst, if◌then◌else◌}
 use Rattle.std.specs.Prelude.{slice_set}
 use Rattle.std.proofs.lemmas.Bool.{cases_eq, cases_lt}
@@ -6,7 +6,6 @@ use Rattle.std.proofs.lemmas.Bool.Decides.{nat_tests}
 use Rattle.std.proofs.lemmas.List.{ext_get_or, get_or-set_other, get_or-set_same}
 use Rattle.std.proofs.Math.ListN.{length-set}
 use Rattle.std.proofs.lemmas.List.FromFn.{get_or-map-range_with_len, length-map-range_with_len}
-use Rattle.hl_inode.specs.declared.inode.Kind.TheVariants as kinds
 use Rattle.hl_tree.specs.Contents.{resized, written}
 use Rattle.hl_tree.proofs.Contents.{length-resized}
 use Rattle.hl_tree_laws.proofs.Contents.{length-written}
@@ -15,15 +14,17 @@ use Rattle.hl_placed.specs.Changes.{cut_file, cuts, ends_within, meets, rewritte
 use Rattle.hl_placed.proofs.Changes.{length-plain_bytes}
 use Rattle.hl_paths.specs.Nodes.{FlatNode}
 use Rattle.hl_overlaid.specs.NodesNow.{old_block}
+use Rattle.hl_overlay.specs.declared.draft.Shape.{Shape}
+use Rattle.hl_overlay.specs.Making.{used_of}
 use Rattle.hl_overlaid.specs.Changes.{reshaped, with_block}
-use Rattle.hl_ranges.specs.Files.{file_node}
+use Rattle.hl_ranges.specs.Files.{file_node, file_shape}
 use Rattle.hl_ranges.specs.Writing.{IsCutBlock, patched}
 
 -- whether an index is one of a range
-inside : (first end j : ℕ) → first ≤ j → j < end → (nat_le first j && nat_lt j end) ≡ true
+pub inside : (first end j : ℕ) → first ≤ j → j < end → (nat_le first j && nat_lt j end) ≡ true
 inside first end j low high = grind (arith, nat_tests)
 
-below : (first end j : ℕ) → j < first → (nat_le first j && nat_lt j end) ≡ false
+pub below : (first end j : ℕ) → j < first → (nat_le first j && nat_lt j end) ≡ false
 below first end j lt = grind (arith, nat_tests)
 
 past : (first end j : ℕ) → end ≤ j → (nat_le first j && nat_lt j end) ≡ false
@@ -52,31 +53,31 @@ listed_set f h n i within others =
       | inr ne ↦ get_or-set_other (listed n f) i k (h i) Hole ne ∙ get_or-map-range_with_len f 0 n k k Hole low (omega arith) ∙ others k ne ∙ sym (get_or-map-range_with_len h 0 n k k Hole low (omega arith))
     ]))
 
--- a file with these blocks
-abbrev of_blocks : ℕ → ℕ → List Block → FlatNode
-of_blocks size now blocks = record { kind = kinds.File; content = record { size = size; used = now; blocks = blocks } }
+-- a node with these blocks
+abbrev pub of_blocks : Shape → ℕ → List Block → FlatNode
+of_blocks shape now blocks = record { kind = shape.kind; content = record { size = shape.size; used = used_of shape.kind now; blocks = blocks } }
 
--- block j of a file with some blocks put
-abbrev block_put : ℕ → ℕ → (ℕ → List ℕ) → Option FlatNode → ℕ → Block
+-- block j of a node with some blocks put
+abbrev pub block_put : ℕ → ℕ → (ℕ → List ℕ) → Option FlatNode → ℕ → Block
 block_put first end new was j = if nat_le first j && nat_lt j end then Here (new j) else old_block was j
 
--- NONE IS PUT of a file that is only reshaped
-pub patched_none : (size now first : ℕ) (new : ℕ → List ℕ) (was : Option FlatNode) → reshaped was now (record { kind = kinds.File; size = size }) ≡ patched size now first first new was
+-- NONE IS PUT of a node that is only reshaped
+pub patched_none : (shape : Shape) (now first : ℕ) (new : ℕ → List ℕ) (was : Option FlatNode) → reshaped was now shape ≡ patched shape now first first new was
 unfolding patched
-patched_none size now first new was = ap (of_blocks size now) (listed_same (old_block was) (block_put first first new was) (blocks_of size) (λ j lt. elim (cases_lt j first) as (λ _. old_block was j ≡ block_put first first new was j) [
+patched_none shape now first new was = ap (of_blocks shape now) (listed_same (old_block was) (block_put first first new was) (blocks_of shape.size) (λ j lt. elim (cases_lt j first) as (λ _. old_block was j ≡ block_put first first new was j) [
   | inl low ↦ ap (λ b. if b then Here (new j) else old_block was j) (sym (below first first j low))
   | inr high ↦ ap (λ b. if b then Here (new j) else old_block was j) (sym (past first first j high))
 ]))
 
 -- ONE MORE IS PUT behind those that were
-pub patched_more : (size now used first i : ℕ) (new : ℕ → List ℕ) (was : Option FlatNode) → first ≤ i → i < blocks_of size → used ≡ now → with_block (patched size now first i new was) i (Here (new i)) used ≡ patched size now first (i + 1) new was
+pub patched_more : (shape : Shape) (now used first i : ℕ) (new : ℕ → List ℕ) (was : Option FlatNode) → first ≤ i → i < blocks_of shape.size → used ≡ now → with_block (patched shape now first i new was) i (Here (new i)) used ≡ patched shape now first (i + 1) new was
 unfolding patched
-patched_more size now used first i new was low within at =
+patched_more shape now used first i new was low within at =
     let last : i < i + 1 = omega arith in
     let own : block_put first (i + 1) new was i ≡ Here (new i) = ap (λ b. if b then Here (new i) else old_block was i) (inside first (i + 1) i low last) in
-    ap (λ u. of_blocks size u (slice_set (listed (blocks_of size) (block_put first i new was)) i (Here (new i)))) at
-    ∙ ap (λ x. of_blocks size now (slice_set (listed (blocks_of size) (block_put first i new was)) i x)) (sym own)
-    ∙ ap (of_blocks size now) (listed_set (block_put first i new was) (block_put first (i + 1) new was) (blocks_of size) i within (λ j ne. elim (cases_lt j first) as (λ _. block_put first i new was j ≡ block_put first (i + 1) new was j) [
+    ap (λ u. of_blocks shape u (slice_set (listed (blocks_of shape.size) (block_put first i new was)) i (Here (new i)))) at
+    ∙ ap (λ x. of_blocks shape now (slice_set (listed (blocks_of shape.size) (block_put first i new was)) i x)) (sym own)
+    ∙ ap (of_blocks shape now) (listed_set (block_put first i new was) (block_put first (i + 1) new was) (blocks_of shape.size) i within (λ j ne. elim (cases_lt j first) as (λ _. block_put first i new was j ≡ block_put first (i + 1) new was j) [
       | inl under ↦ ap (λ b. if b then Here (new j) else old_block was j) (below first i j under ∙ sym (below first (i + 1) j under))
       | inr from ↦ elim (cases_lt j i) as (λ _. block_put first i new was j ≡ block_put first (i + 1) new was j) [
         | inl lt ↦
@@ -101,7 +102,7 @@ untouched_high from to start h = grind (arith, nat_tests)
 -- A FILE WRITTEN is one with each block put that the bytes touch
 pub patched_written : (shelf : Shelf) (file : PlacedFile) (size at : ℕ) (bytes : List ℕ) (now : ℕ) (new : ℕ → List ℕ) → 0 < length bytes → size ≡ max file.size (at + length bytes)
     → ((j : ℕ) → at < 4096 * j + 4096 → 4096 * j < at + length bytes → new j ≡ padded_block (written (plain_bytes shelf file) at bytes) j)
-    → patched size now (at / 4096) ((at + length bytes + 4095) / 4096) new (Some (file_node file)) ≡ file_node (written_file shelf file at bytes now)
+    → patched (file_shape size) now (at / 4096) ((at + length bytes + 4095) / 4096) new (Some (file_node file)) ≡ file_node (written_file shelf file at bytes now)
 unfolding patched written_file rewritten meets
 patched_written shelf file size at bytes now new some size_is are =
     let w = written (plain_bytes shelf file) at bytes in
@@ -112,8 +113,8 @@ patched_written shelf file size at bytes now new some size_is are =
     let next = λ (j : ℕ). if test j then Here (padded_block w j) else file_block file j in
     let long : size ≡ length w = (let a = length-written (plain_bytes shelf file) at bytes in let b = length-plain_bytes shelf file in omega arith) in
     let grows : at < at + length bytes = omega arith in
-    ap (λ n. of_blocks n now (listed (blocks_of n) (block_put first end new was))) long
-    ∙ ap (of_blocks (length w) now) (listed_same (block_put first end new was) next (blocks_of (length w)) (λ j lt. elim (cases_lt at (4096 * j + 4096)) as (λ _. block_put first end new was j ≡ next j) [
+    ap (λ n. of_blocks (file_shape n) now (listed (blocks_of n) (block_put first end new was))) long
+    ∙ ap (of_blocks (file_shape (length w)) now) (listed_same (block_put first end new was) next (blocks_of (length w)) (λ j lt. elim (cases_lt at (4096 * j + 4096)) as (λ _. block_put first end new was j ≡ next j) [
       | inl begins ↦ elim (cases_lt (4096 * j) (at + length bytes)) as (λ _. block_put first end new was j ≡ next j) [
         | inl ends ↦
             let low : at / 4096 ≤ j = omega arith in
@@ -187,11 +188,11 @@ module _ (shelf : Shelf) (file : PlacedFile) (size : ℕ) (edge : List ℕ) wher
   ]
 
   -- A FILE CUT is one with that block put
-  pub patched_cut : (now : ℕ) (is_cut : Bool) → IsCutBlock shelf file size edge is_cut → patched size now (size / 4096) (if is_cut then size / 4096 + 1 else size / 4096) (λ j. edge) (Some (file_node file)) ≡ file_node (cut_file shelf file size now)
+  pub patched_cut : (now : ℕ) (is_cut : Bool) → IsCutBlock shelf file size edge is_cut → patched (file_shape size) now (size / 4096) (if is_cut then size / 4096 + 1 else size / 4096) (λ j. edge) (Some (file_node file)) ≡ file_node (cut_file shelf file size now)
   unfolding patched cut_file rewritten
   patched_cut now is_cut is =
-      ap (λ n. of_blocks n now (listed (blocks_of n) (block_put (size / 4096) (if is_cut then size / 4096 + 1 else size / 4096) (λ j. edge) (Some (file_node file))))) (sym (length-resized (plain_bytes shelf file) size))
-      ∙ ap (of_blocks (length (resized (plain_bytes shelf file) size)) now) (listed_same (block_put (size / 4096) (if is_cut then size / 4096 + 1 else size / 4096) (λ j. edge) (Some (file_node file)))
+      ap (λ n. of_blocks (file_shape n) now (listed (blocks_of n) (block_put (size / 4096) (if is_cut then size / 4096 + 1 else size / 4096) (λ j. edge) (Some (file_node file))))) (sym (length-resized (plain_bytes shelf file) size))
+      ∙ ap (of_blocks (file_shape (length (resized (plain_bytes shelf file) size))) now) (listed_same (block_put (size / 4096) (if is_cut then size / 4096 + 1 else size / 4096) (λ j. edge) (Some (file_node file)))
       (λ j. if cuts file size j && not (is_hole (file_block file j)) then Here (padded_block (resized (plain_bytes shelf file) size) j) else file_block file j) (blocks_of (length (resized (plain_bytes shelf file) size)))
       (λ j lt. by is_cut refl j (cases_eq j (size / 4096))))
     where

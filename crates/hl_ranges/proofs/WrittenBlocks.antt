@@ -15,13 +15,13 @@ module _ (a k : ℕ) (xs ys : List ℕ) (le : a ≤ length xs) where
   front_long : length (take a xs) ≡ a
   front_long = simp length-take (omega arith)
 
-  before_part : (j : ℕ) → j < a → get_or (put_mid a k xs ys) j 0 ≡ get_or xs j 0
+  pub before_part : (j : ℕ) → j < a → get_or (put_mid a k xs ys) j 0 ≡ get_or xs j 0
   before_part j lt = get_or_append_left (take a xs) (ys ++ drop k (drop a xs)) 0 j (let e = front_long in omega arith) ∙ get_or-take a xs j 0 lt
 
-  in_part : (j : ℕ) → a ≤ j → j < a + length ys → get_or (put_mid a k xs ys) j 0 ≡ get_or ys (j - a) 0
+  pub in_part : (j : ℕ) → a ≤ j → j < a + length ys → get_or (put_mid a k xs ys) j 0 ≡ get_or ys (j - a) 0
   in_part j low high = get_or-append_right (take a xs) (ys ++ drop k (drop a xs)) a j 0 front_long low ∙ get_or_append_left ys (drop k (drop a xs)) 0 (j - a) (omega arith)
 
-  behind_part : length ys ≡ k → (j : ℕ) → a + k ≤ j → get_or (put_mid a k xs ys) j 0 ≡ get_or xs j 0
+  pub behind_part : length ys ≡ k → (j : ℕ) → a + k ≤ j → get_or (put_mid a k xs ys) j 0 ≡ get_or xs j 0
   behind_part long j low =
       let after : a ≤ j = omega arith in
       let more : k ≤ j - a = omega arith in
@@ -32,7 +32,7 @@ module _ (a k : ℕ) (xs ys : List ℕ) (le : a ≤ length xs) where
       ∙ get_or-drop a xs (k + (j - a - k)) 0
       ∙ ap (λ n. get_or xs n 0) back
 
-  part_long : length ys ≡ k → a + k ≤ length xs → length (put_mid a k xs ys) ≡ length xs
+  pub part_long : length ys ≡ k → a + k ≤ length xs → length (put_mid a k xs ys) ≡ length xs
   part_long long fits = simp (length-append, length-take, length-drop) (omega arith)
 
 -- A PART PUT INTO A BLOCK makes it that of the bytes written

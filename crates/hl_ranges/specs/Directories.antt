@@ -1,5 +1,5 @@
 -- The bytes of a directory: found whole, and changed from one on.
-use Rattle.std.specs.Prelude.{◌≡◌, ℕ, ◌+◌, ◌/◌, List, length, take, Option, Some}
+use Rattle.std.specs.Prelude.{◌≡◌, ℕ, ◌+◌, ◌*◌, ◌/◌, ◌<◌, List, get_or, length, slice_index, take, Option, Some}
 use Rattle.std.specs.FinMap.{get}
 use Rattle.hl_media.specs.Causes.{Rose}
 use Rattle.hl_media.specs.History.{History, MachineState}
@@ -12,9 +12,11 @@ use Rattle.hl_overlay.specs.declared.draft.Shape.{Shape}
 use Rattle.hl_overlaid.specs.Changes.{KeepsOtherUses}
 use Rattle.hl_overlaid.specs.NodesNow.{with_node}
 use Rattle.hl_store.specs.Values.{StoreValue, nodes_of}
-use Rattle.hl_store.specs.Lying.{LiesOver}
+use Rattle.hl_store.specs.Lying.{LiesOver, block_of_number}
 use Rattle.hl_store.specs.Finding.{OverNow}
 use Rattle.hl_store.specs.Changes.{KeepsBeside, KeepsOtherShapes, drafted_shape}
+use Rattle.hl_ranges.specs.declared.ranges.RangeStep.{RangeStep}
+use Rattle.hl_ranges.specs.declared.ranges.RangeStep.TheVariants as step
 use Rattle.hl_ranges.specs.declared.directories.DirectoryFound.{DirectoryFound}
 use Rattle.hl_ranges.specs.declared.directories.DirectoryFound.TheVariants as directory
 
@@ -49,10 +51,25 @@ module _ {M : Type 0} where
     pub is : n.kind ≡ kind
 
   -- a number is a directory, and these are its bytes
-  pub record HasDirectory (v : StoreValue M) (c : Contents) (ino : ℕ) (bytes : List ℕ) : Type 0 where
+  pub record HasDirectory (v : StoreValue M) (c : Contents) (ino : ℕ)
+      (bytes : List ℕ) : Type 0 where
     pub kind : HasKind v c ino Dir
     pub own : (others : List ℕ) → get (nodes_of v c) ino ≡ Some (directory_node others)
         → bytes ≡ others
+
+  -- of the first so many blocks of a number, the bytes have each that is resident in its place
+  abbrev pub HasInPlace : StoreValue M → Contents → ℕ → ℕ → List ℕ → Type 0
+  HasInPlace v c ino count bytes = (i k : ℕ) (own : List ℕ) → i < count → k < 4096
+      → block_of_number v c ino i ≡ Here own → get_or bytes (4096 * i + k) 0 ≡ get_or own k 0
+
+  -- the first so many blocks of a number were read
+  abbrev pub ReadsBlocks : (M → Option History) → (M → ℕ) → StoreValue M → StoreValue M → ℕ → ℕ
+      → List ℕ → RangeStep → Type 0
+  ReadsBlocks history faults old new ino count bytes step.Done =
+      OverNow history old (λ s c. HasInPlace old c ino count bytes)
+  ReadsBlocks history faults old new ino count bytes step.DiskFault =
+      Rose (faults old.log.machine) (faults new.log.machine)
+  ReadsBlocks history faults old new ino count bytes step.Memory = Unit {0}
 
   -- What a number was found to be: a directory of these bytes, which is drafted now, or a file. A fault comes only where the
   -- count rose.
@@ -67,8 +84,8 @@ module _ {M : Type 0} where
       Rose (faults old.log.machine) (faults new.log.machine)
   FindsDirectory history faults old new ino directory.Memory = Unit {0}
 
-  -- A number that was a directory is one of other bytes, where both have the same bytes up to one. No other node changes, and
-  -- each block from there on took the room of a new one.
+  -- A number that was a directory is one of other bytes, where both have the same bytes up to one, and its last use is 0. No
+  -- other node changes, nor any other last use, and each block from there on took the room of a new one.
   pub record PutsDirectory (old new : StoreValue M) (ino from : ℕ) (bytes : List ℕ) : Type 0 where
     pub beside : KeepsBeside old new
     pub over : (c : Contents) (s : MachineState) → LiesOver old c s → LiesOver new c s
@@ -76,6 +93,7 @@ module _ {M : Type 0} where
         → get (nodes_of old c) ino ≡ Some (directory_node was) → take from was ≡ take from bytes
         → nodes_of new c ≡ with_node (nodes_of old c) ino (Some (directory_node bytes))
     pub uses : KeepsOtherUses old.uses new.uses ino
+    pub used : slice_index new.uses ino ≡ 0
     pub own : HasDirectoryDraft new ino (length bytes)
     pub shapes : KeepsOtherShapes old new ino
     pub room : new.overlay.room + blocks_of (length bytes) ≡ old.overlay.room + from / 4096

@@ -3,11 +3,16 @@ use Rattle.std.specs.Prelude.{◌≡◌, ℕ, ◌<◌, List, get_or, Option, Som
 use Rattle.std.specs.FinMap.{get}
 use Rattle.hl_media.specs.History.{History, MachineState}
 use Rattle.hl_inode.specs.declared.inode.Kind.TheVariants as kinds
+use Rattle.hl_overlay.specs.declared.draft.Shape.{Shape}
 use Rattle.hl_placed.specs.Blocks.{Away, IsPlacedFile, PlacedFile, Shelf, byte_of}
 use Rattle.hl_paths.specs.Nodes.{FlatNode}
 use Rattle.hl_nodes.specs.Contents.{Contents}
 use Rattle.hl_store.specs.Values.{StoreValue, nodes_of}
 use Rattle.hl_store.specs.Finding.{IsInLine, OverNow}
+
+-- a file of so many bytes
+abbrev pub file_shape : ℕ → Shape
+file_shape size = record { kind = kinds.File; size = size }
 
 -- the node of a file
 abbrev pub file_node : PlacedFile → FlatNode

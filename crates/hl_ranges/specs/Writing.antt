@@ -2,17 +2,18 @@
 use Rattle.std.specs.Prelude.{◌≡◌, ℕ, ◌+◌, ◌-◌, ◌*◌, ◌/◌, ◌%◌, ◌<◌, ◌≤◌, ◌==◌, ◌&&◌, Bool, true, false, not, nat_le, nat_lt, if◌then◌else◌, List, length, take, drop, Option, Some}
 use Rattle.hl_media.specs.Causes.{Rose}
 use Rattle.hl_media.specs.History.{History}
-use Rattle.hl_inode.specs.declared.inode.Kind.TheVariants as kinds
 use Rattle.hl_tree.specs.Contents.{resized, written}
 use Rattle.hl_placed.specs.Blocks.{Here, PlacedFile, Shelf, blocks_of, file_block, is_hole, listed, padded_block, plain_bytes}
 use Rattle.hl_placed.specs.Changes.{covers, cuts}
 use Rattle.hl_paths.specs.Nodes.{FlatNode}
+use Rattle.hl_overlay.specs.declared.draft.Shape.{Shape}
+use Rattle.hl_overlay.specs.Making.{used_of}
 use Rattle.hl_overlaid.specs.NodesNow.{old_block}
 use Rattle.hl_store.specs.Values.{StoreValue}
 use Rattle.hl_store.specs.Changes.{Always, ChangesNode, drafted_shape}
 use Rattle.hl_ranges.specs.declared.ranges.RangeStep.{RangeStep}
 use Rattle.hl_ranges.specs.declared.ranges.RangeStep.TheVariants as step
-use Rattle.hl_ranges.specs.Files.{OfFile}
+use Rattle.hl_ranges.specs.Files.{OfFile, file_shape}
 
 -- block i that a write of bytes touches, as it leaves it: bytes that cover it, or what was made of the first or the last block
 unfoldable pub new_block : ℕ → List ℕ → List ℕ → List ℕ → ℕ → List ℕ
@@ -22,14 +23,15 @@ new_block at bytes front back i = if covers at (at + length bytes) i then take 4
 abbrev pub PutsPart : ℕ → ℕ → List ℕ → List ℕ → List ℕ → Type 0
 PutsPart i at bytes before after = (old : List ℕ) → before ≡ padded_block old i → after ≡ padded_block (written old at bytes) i
 
--- A file of a size, used at a moment, that has new blocks from one up to another. Its others are those that the number had.
-unfoldable pub patched : ℕ → ℕ → ℕ → ℕ → (ℕ → List ℕ) → Option FlatNode → FlatNode
-patched size now first end new was = record {
-  kind = kinds.File;
+-- A node of a shape, used at a moment, that has new blocks from one up to another. Its others are those that the number had.
+unfoldable pub patched : Shape → ℕ → ℕ → ℕ → (ℕ → List ℕ) → Option FlatNode → FlatNode
+patched shape now first end new was = record {
+  kind = shape.kind;
   content = record {
-    size = size;
-    used = now;
-    blocks = listed (blocks_of size) (λ j. if nat_le first j && nat_lt j end then Here (new j) else old_block was j);
+    size = shape.size;
+    used = used_of shape.kind now;
+    blocks = listed (blocks_of shape.size)
+        (λ j. if nat_le first j && nat_lt j end then Here (new j) else old_block was j);
   };
 }
 
@@ -56,11 +58,11 @@ module _ {M : Type 0} where
 
   -- a number is drafted as a file
   abbrev pub IsDraftedFile : StoreValue M → ℕ → Type 0
-  IsDraftedFile v ino = (size : ℕ) × (drafted_shape v ino ≡ Some (Some (record { kind = kinds.File; size = size })))
+  IsDraftedFile v ino = (size : ℕ) × (drafted_shape v ino ≡ Some (Some (file_shape size)))
 
   -- a number is a file of this size
   pub record FindsSize (history : M → Option History) (old new : StoreValue M) (ino size : ℕ) : Type 0 where
-    pub drafted : drafted_shape new ino ≡ Some (Some (record { kind = kinds.File; size = size }))
+    pub drafted : drafted_shape new ino ≡ Some (Some (file_shape size))
     pub most : size ≤ 4243456
     pub is : OfFile history old ino (λ c shelf file. size ≡ file.size)
 
@@ -88,11 +90,14 @@ module _ {M : Type 0} where
       × OfFile history v ino (λ c shelf file. before ≡ file.size → IsCutBlock shelf file size bytes is_cut)
 
   -- a number is a file of a size, used at a moment, with the blocks that a write touches
-  abbrev pub MakesWritten : StoreValue M → StoreValue M → ℕ → ℕ → ℕ → ℕ → List ℕ → List ℕ → List ℕ → Type 0
+  abbrev pub MakesWritten : StoreValue M → StoreValue M → ℕ → ℕ → ℕ → ℕ → List ℕ → List ℕ
+      → List ℕ → Type 0
   MakesWritten old new ino size now at bytes front back = ChangesNode old new ino Always
-      (λ was. Some (patched size now (at / 4096) ((at + length bytes + 4095) / 4096) (new_block at bytes front back) was))
+      (λ was. Some (patched (file_shape size) now (at / 4096) ((at + length bytes + 4095) / 4096)
+      (new_block at bytes front back) was))
 
   -- the same with the block that a cut changes
   abbrev pub MakesCut : StoreValue M → StoreValue M → ℕ → ℕ → ℕ → Bool → List ℕ → Type 0
   MakesCut old new ino size now is_cut edge = ChangesNode old new ino Always
-      (λ was. Some (patched size now (size / 4096) (if is_cut then size / 4096 + 1 else size / 4096) (λ j. edge) was))
+      (λ was. Some (patched (file_shape size) now (size / 4096)
+      (if is_cut then size / 4096 + 1 else size / 4096) (λ j. edge) was))

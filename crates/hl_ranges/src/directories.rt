@@ -1,11 +1,14 @@
 //! The bytes of directories.
 
-ghost use Rattle.std.specs.Prelude.{◌≡◌, ◌+◌, ◌/◌, ◌≤◌, length};
+ghost use Rattle.std.specs.Prelude.{◌≡◌, ◌+◌, ◌*◌, ◌/◌, ◌<◌, ◌≤◌, length};
 ghost use Rattle.hl_log.specs.Logs.{OnlyReads};
-ghost use Rattle.hl_placed.specs.Blocks.{blocks_of};
+ghost use Rattle.hl_placed.specs.Blocks as blocks;
+ghost use Rattle.hl_placed.specs.Blocks.{blocks_of, padded_block};
+ghost use Rattle.hl_overlay.specs.DraftTables.{HasBlock};
 ghost use Rattle.hl_store.specs.Shapes.{IsNumber};
 ghost use Rattle.hl_store.specs.Finding.{ReadsNodes};
-ghost use Rattle.hl_ranges.specs.Directories.{FindsDirectory, IsDraftedDirectory, PutsDirectory};
+ghost use Rattle.hl_store.specs.Changes.{Always, PutsInto};
+ghost use Rattle.hl_ranges.specs.Directories.{FindsDirectory, IsDraftedDirectory, PutsDirectory, ReadsBlocks};
 
 use crate::ranges::{BLOCK_BYTES, RangeStep};
 use hl_bytes::BLOCK;
@@ -27,11 +30,7 @@ pub enum DirectoryFound {
 }
 
 /// The bytes of a directory. Each block is read once, straight into its place.
-pub fn read_directory<M: Machine>(
-    store: &mut Store<M>,
-    alloc: Global,
-    ino: u32,
-) -> DirectoryFound
+pub fn read_directory<M: Machine>(store: &mut Store<M>, alloc: Global, ino: u32) -> DirectoryFound
     requires number { IsNumber store.old ino }
     ensures found { FindsDirectory M.history M.faults store.old store.new ino result }
     ensures reads { ReadsNodes M.history store.old store.new }
@@ -46,11 +45,11 @@ pub fn read_directory<M: Machine>(
         NodeFound::Unused | NodeFound::Memory => return DirectoryFound::Memory,
         NodeFound::DiskFault => return DirectoryFound::DiskFault,
     };
-    let blocks = size.div_ceil(BLOCK_BYTES) as u32;
-    let Ok(mut bytes) = vec![in alloc; 0; BLOCK * blocks as usize] else {
+    let count = size.div_ceil(BLOCK_BYTES) as u32;
+    let Ok(mut bytes) = vec![in alloc; 0; BLOCK * count as usize] else {
         return DirectoryFound::Memory;
     };
-    match read_blocks(store, alloc, ino, blocks, bytes.as_mut_slice()) {
+    match read_blocks(store, alloc, ino, count, bytes.as_mut_slice()) {
         RangeStep::Done => {}
         RangeStep::DiskFault => return DirectoryFound::DiskFault,
         RangeStep::Memory => return DirectoryFound::Memory,
@@ -77,13 +76,20 @@ pub fn put_directory<M: Machine>(store: &mut Store<M>, ino: u32, bytes: &[u8], f
     store.set_node(ino, &node);
     let first = (from / BLOCK) as u32;
     let end = bytes.len().div_ceil(BLOCK) as u32;
-    'blocks: for i in first..end {
+    'each: for i in first..end {
         put_padded(store, ino, i, bytes);
     }
 }
 
 /// Puts block `i` of some bytes, filled up with zeros.
 fn put_padded<M: Machine>(store: &mut Store<M>, ino: u32, i: u32, bytes: &[u8])
+    requires number { IsNumber store.old ino }
+    requires block { HasBlock store.old.overlay.drafts ino i }
+    requires room { 0 < store.old.overlay.room }
+    requires begins { 4096 * i < length bytes.now }
+    ensures puts { PutsInto store.old store.new ino i Always
+        (blocks.Here (padded_block bytes.now i)) }
+    ensures room { store.new.overlay.room + 1 ≡ store.old.overlay.room }
 {
     let start = BLOCK * i as usize;
     if start + BLOCK <= bytes.len() {
@@ -100,11 +106,18 @@ fn read_blocks<M: Machine>(
     store: &mut Store<M>,
     alloc: Global,
     ino: u32,
-    blocks: u32,
+    count: u32,
     bytes: &mut [u8],
 ) -> RangeStep
+    requires number { IsNumber store.old ino }
+    requires size { length bytes.old ≡ 4096 * count }
+    ensures blocks { ReadsBlocks M.history M.faults store.old store.new ino count
+        bytes.new result }
+    ensures reads { ReadsNodes M.history store.old store.new }
+    ensures machine { OnlyReads M.history M.blocks M.faults M.write_faults M.say_faults
+        store.old.log.machine store.new.log.machine }
 {
-    'blocks: for i in 0..blocks {
+    'each: for i in 0..count {
         let start = BLOCK * i as usize;
         match store.block(alloc, ino, i, &mut bytes[start..start + BLOCK]) {
             Found::Bytes | Found::Hole => {}

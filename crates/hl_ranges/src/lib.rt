@@ -1,7 +1,10 @@
-//! The bytes of a file over the store: which tertiary segments a read, a write and a cut need, and what they read and leave.
+//! The bytes of files and directories over the store: which tertiary segments a read, a write and a cut need, and what they
+//! read and leave.
 //!
 //! A call first asks what it needs (`read_needs`, `write_needs`, `cut_needs`); with all of it at hand `read_range` appends
 //! the bytes, and `write_range` and `cut_range` change the file, by reading and putting the blocks that they touch alone.
+//! All blocks of a directory are resident: `read_directory` reads each, and `put_directory` puts those from where its bytes
+//! change on.
 #![tactic(auto)]
 
 mod directories;

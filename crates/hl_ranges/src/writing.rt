@@ -1,6 +1,6 @@
 //! Changing bytes of a file.
 
-ghost use Rattle.std.specs.Prelude.{◌≡◌, ◌+◌, ◌*◌, ◌/◌, ◌<◌, ◌≤◌, IfErr, IfOk, IsSome, List, OnOk, ℕ, length};
+ghost use Rattle.std.specs.Prelude.{◌≡◌, ◌+◌, ◌*◌, ◌/◌, ◌<◌, ◌≤◌, IfErr, IfOk, IsSome, List, OnOk, ℕ, length, slice_set};
 ghost use Rattle.hl_log.specs.Logs.{OnlyReads};
 ghost use Rattle.hl_placed.specs.Blocks as blocks;
 ghost use Rattle.hl_placed.specs.Changes.{covers, cut_file, written_file};
@@ -295,6 +295,7 @@ fn put_written<M: Machine>(
     requires room { (at + length bytes.now + 4095) / 4096 ≤ store.old.overlay.room + at / 4096 }
     ensures made { MakesWritten store.old store.new ino size now at bytes.now
         front.now back.now }
+    ensures uses { store.new.uses ≡ slice_set store.old.uses ino now }
 {
     let node = Node {
         kind: Kind::File,
@@ -387,6 +388,7 @@ fn put_cut<M: Machine>(
     requires drafted { IsDraftedFile store.old ino }
     requires room { 1 ≤ store.old.overlay.room }
     ensures made { MakesCut store.old store.new ino size now is_cut edge.now }
+    ensures uses { store.new.uses ≡ slice_set store.old.uses ino now }
 {
     let node = Node {
         kind: Kind::File,

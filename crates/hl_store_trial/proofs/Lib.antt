@@ -1,3 +1,4 @@
 pub mod MadeLemmas
 pub mod CleanLemmas
 pub mod PartLemmas
+pub mod UnitLemmas

@@ -1,15 +1,16 @@
 //! The first image of a site: in segment 1 the root, which is an empty directory, in block 1, the tables in blocks 2 to 5,
-//! and the log's head at block 8.
+//! and the log's head at block 8; and the tertiary segments of its away blocks.
 
 ghost use Rattle.std.specs.Prelude.{◌≡◌, IfSome};
 ghost use Rattle.hl_log.specs.Logs.{site_blocks};
 
 use hl_addr::{Geometry, NOTHING, Numbers};
-use hl_bytes::BLOCK;
+use hl_bytes::{BLOCK, BlockRecord, SegBuf, is_zero};
 use hl_inode::{Inode, Kind, encode};
 use hl_super::{Label, Record, encode_label, encode_record};
 use hl_tables::Tables;
 use hl_tseg::Slot;
+use hl_view::seal_line;
 use std::alloc::{AllocError, Global};
 
 /// What a first image has.
@@ -17,14 +18,61 @@ use std::alloc::{AllocError, Global};
 pub enum First {
     /// The root alone.
     Root,
-    /// Besides the root a file of number 2, with its inode in block 6. Its first block is block 1 of the segment of slot 0,
-    /// which is staged in line 3, where that block is `AWAY_BYTE`s; its second is block 1 of the segment of slot 1, which is
-    /// home.
+    /// Besides the root a file of number 2, with its inode in block 6. Its first block is that of the segment `STAGED` in
+    /// slot 0, which is staged in line 3; its second is that of the segment `HOME` in slot 1, which no line holds.
     Away,
 }
 
-/// The byte of the away block that a line holds.
-pub const AWAY_BYTE: u8 = 9;
+/// A tertiary segment of one block, which is block 1 of the segment and the same byte again and again.
+#[derive(Clone, Copy, Debug, PartialEq, Eq)]
+pub struct Tertiary {
+    pub serial: u64,
+    /// Which block of number 2 it is.
+    pub index: u32,
+    pub byte: u8,
+}
+
+/// The segment of a first image that is staged.
+pub const STAGED: Tertiary = Tertiary {
+    serial: 9,
+    index: 0,
+    byte: 9,
+};
+
+/// The segment of a first image that is home.
+pub const HOME: Tertiary = Tertiary {
+    serial: 8,
+    index: 1,
+    byte: 8,
+};
+
+/// Seals a buffer as the segment of a serial whose one block is block 1, where it has that block and only zeros behind it.
+fn seal_one(buf: &mut SegBuf, serial: u64, record: BlockRecord) {
+    let blocks = buf.blocks();
+    if blocks < 2 {
+        return;
+    }
+    if !is_zero(buf.part(0, blocks), 2 * BLOCK, BLOCK * blocks as usize) {
+        return;
+    }
+    seal_line(buf, serial, &[record]);
+}
+
+impl Tertiary {
+    /// Its bytes, as many as a line's of a site of segments of `k` blocks.
+    pub fn sealed(self, alloc: Global, k: u32) -> Result<SegBuf, AllocError> {
+        let mut buf = SegBuf::new(alloc, k)?;
+        if 2 <= buf.blocks() {
+            buf.block_mut(1).fill(self.byte);
+        }
+        let record = BlockRecord {
+            ino: 2,
+            index: self.index,
+        };
+        seal_one(&mut buf, self.serial, record);
+        Ok(buf)
+    }
+}
 
 /// Block 1 of the segments of slots 0 and 1.
 const AWAY: [u32; 2] = [4_294_966_977, 4_294_967_041];
@@ -70,6 +118,15 @@ fn put_root(image: &mut [u8], site: &Geometry) {
     put_block(image, site.k + 1, &block);
 }
 
+/// Puts a segment into an image from a block on, if the image has it.
+fn put_segment(image: &mut [u8], at: u32, segment: &SegBuf) {
+    let start = BLOCK * at as usize;
+    let bytes = segment.part(0, segment.blocks());
+    if start + bytes.len() <= image.len() {
+        image[start..start + bytes.len()].copy_from_slice(bytes);
+    }
+}
+
 fn put_away_file(image: &mut [u8], site: &Geometry) {
     let mut block = [0; BLOCK];
     let mut direct = [NOTHING; 12];
@@ -85,7 +142,6 @@ fn put_away_file(image: &mut [u8], site: &Geometry) {
     };
     encode(&file, &mut block);
     put_block(image, site.k + 6, &block);
-    put_block(image, site.k * (1 + site.log + 3) + 1, &[AWAY_BYTE; BLOCK]);
 }
 
 fn put_tables(image: &mut [u8], site: &Geometry, tables: &Tables) {
@@ -121,9 +177,15 @@ fn tables_of(alloc: Global, site: &Geometry, first: First) -> Result<Tables, All
     tables.set_used(1, true);
     if first == First::Away && 2 < site.inodes && 1 < site.slots() {
         tables.set_inode(2, site.k + 6);
-        let staged = Slot::Staged { line: 3, serial: 9 };
+        let staged = Slot::Staged {
+            line: 3,
+            serial: STAGED.serial,
+        };
+        let home = Slot::Home {
+            serial: HOME.serial,
+        };
         tables.slots_mut().set(0, staged);
-        tables.slots_mut().set(1, Slot::Home { serial: 8 });
+        tables.slots_mut().set(1, home);
     }
     Ok(tables)
 }
@@ -137,6 +199,8 @@ pub fn image_of(alloc: Global, site: &Geometry, first: First) -> Result<Vec<u8>,
     put_root(bytes, site);
     if first == First::Away {
         put_away_file(bytes, site);
+        let line = site.k * (1 + site.log + 3);
+        put_segment(bytes, line, &STAGED.sealed(alloc, site.k)?);
     }
     put_tables(bytes, site, &tables_of(alloc, site, first)?);
     put_record(alloc, bytes, site)?;

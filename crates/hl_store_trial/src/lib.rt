@@ -3,6 +3,7 @@
 #![tactic(auto)]
 
 mod first;
+mod lines;
 mod model;
 mod mounts;
 mod nodes;
@@ -10,8 +11,11 @@ mod sites;
 #[cfg(test)]
 mod tests;
 mod trial;
+mod units;
 
-pub use first::First;
+pub use first::{First, HOME, STAGED, Tertiary, disk_blocks, image_of};
 pub use model::{Plain, PlainNode};
+pub use mounts::open_over;
+pub use nodes::{is_number, make};
 pub use sites::Site;
 pub use trial::{Counted, Stored, Trial};

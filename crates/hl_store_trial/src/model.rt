@@ -18,6 +18,8 @@ pub enum Plain {
     Filled(u32),
     /// The entries of so many numbers, from 2 on, with the names a, b and so on, at most eight.
     Entries(usize),
+    /// In a tertiary segment, where it is this byte again and again.
+    Away(u8),
 }
 
 impl Plain {
@@ -31,6 +33,15 @@ impl Plain {
                 bytes
             }
             Plain::Entries(count) => entries(count),
+            Plain::Away(byte) => [byte; BLOCK],
+        }
+    }
+
+    /// What it is charged beside its node's inode and pointer block.
+    fn charge(self) -> u32 {
+        match self {
+            Plain::Hole | Plain::Away(_) => 0,
+            Plain::Filled(_) | Plain::Entries(_) => 1,
         }
     }
 }
@@ -84,16 +95,15 @@ impl PlainNode {
         }
     }
 
-    /// What it is charged: one for its inode, one for its pointer block, if a block from 12 on isn't a hole, and its blocks.
+    /// What it is charged: one for its inode, one for its pointer block, if a block from 12 on isn't a hole, and its blocks
+    /// in the log.
     pub fn charge(&self) -> u32 {
         let mut charge: u32 = 1;
         let mut far: u32 = 0;
         for (i, block) in self.blocks.as_slice().iter().enumerate() {
-            if *block != Plain::Hole {
-                charge = charge.saturating_add(1);
-                if 12 <= i {
-                    far = 1;
-                }
+            charge = charge.saturating_add(block.charge());
+            if 12 <= i && *block != Plain::Hole {
+                far = 1;
             }
         }
         charge.saturating_add(far)
@@ -105,9 +115,9 @@ fn is_block(found: &FoundBlock, plain: Plain) -> bool {
     match found {
         FoundBlock::Hole => plain == Plain::Hole,
         FoundBlock::Here(bytes) => {
-            plain != Plain::Hole && bytes.as_slice() == plain.bytes().as_slice()
+            plain.charge() == 1 && bytes.as_slice() == plain.bytes().as_slice()
         }
-        FoundBlock::Away { .. } => false,
+        FoundBlock::Away { .. } => matches!(plain, Plain::Away(_)),
     }
 }
 

@@ -218,9 +218,7 @@ fn machine_of(
     site: &Geometry,
     image: &[u8],
     failing: &[u64],
-) -> Result<Option<MemMachine>, AllocError>
-    ensures { IfOk result (λ machine. IfSome machine (λ m. site_blocks site.now ≤ m.blocks)) }
-{
+) -> Result<Option<MemMachine>, AllocError> {
     let Some(blocks) = disk_blocks(site) else {
         return Ok(None);
     };
@@ -230,9 +228,6 @@ fn machine_of(
     let mut machine = MemMachine::of_image(alloc, image)?;
     for number in failing {
         machine.fail_call(alloc, *number)?;
-    }
-    if machine.blocks() < blocks {
-        return Ok(None);
     }
     Ok(Some(machine))
 }
@@ -245,7 +240,31 @@ pub fn open_on(
     image: &[u8],
     failing: &[u64],
 ) -> Result<Option<Store<MemMachine>>, AllocError> {
-    if !has_log(site, image) {
+    match machine_of(alloc, site, image, failing)? {
+        Some(machine) => open_over(alloc, site, image, machine),
+        None => Ok(None),
+    }
+}
+
+/// Whether a machine has the blocks of a site.
+fn is_large_enough<M: Machine>(site: &Geometry, machine: &M) -> bool
+    ensures { IsTrue result → site_blocks site.now ≤ M.blocks machine.now }
+{
+    match disk_blocks(site) {
+        Some(blocks) => blocks <= machine.blocks(),
+        None => false,
+    }
+}
+
+/// A store on a machine whose disk has these bytes, opened with what is found in them; none where they are no disk of the
+/// site that has contents.
+pub fn open_over<M: Machine + Drop>(
+    alloc: Global,
+    site: &Geometry,
+    image: &[u8],
+    machine: M,
+) -> Result<Option<Store<M>>, AllocError> {
+    if !has_log(site, image) || !is_large_enough(site, &machine) {
         return Ok(None);
     }
     let Some(found) = contents_of(alloc, image, site)? else {
@@ -256,9 +275,6 @@ pub fn open_on(
     if !is_log_place(site, seg, block) {
         return Ok(None);
     }
-    let Some(machine) = machine_of(alloc, site, image, failing)? else {
-        return Ok(None);
-    };
     let rec = record_copy(alloc, &found.rec)?;
     let parts = parts_of(alloc, site, seg, found, lives.as_slice())?;
     let Ok(log) = Log::open(alloc, machine, site, rec, (seg, block), serial) else {

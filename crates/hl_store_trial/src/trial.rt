@@ -1,17 +1,21 @@
 //! A store of a site on a disk in memory, of which only answers and images are seen.
 
-use crate::first::{First, image_of};
+use crate::first::{First, HOME, image_of};
+use crate::lines::{bind_line, load_line, set_line_aside, store_line};
 use crate::model::PlainNode;
-use crate::mounts::{has_log, open_on};
+use crate::mounts::{has_log, open_on, open_over};
 use crate::nodes::{free, is_number, make, make_cut_and_grown};
 use crate::sites::Site;
-use hl_bytes::BLOCK;
-use hl_found::{contents_of, files_of, is_sound};
+use crate::units::{checkpoint, note};
+use hl_bytes::{BLOCK, SegBuf, TableRecord};
+use hl_found::{ShelfSegment, contents_of, files_of, is_sound};
 use hl_log::UnitAnswer;
+use hl_media::Failed;
 use hl_mem::{MemMachine, Tear};
 use hl_nodes::FoundNode;
 use hl_store::{Found, NodeFound, Placed, Prepared, Store};
 use hl_tree::PlainTree;
+use hl_tseg::Slot;
 use std::alloc::{AllocError, Global};
 use std::marker::Model;
 
@@ -25,7 +29,7 @@ pub struct Counted {
 }
 
 /// A store that may be stopped at each moment. What is done with one through this trait sees nothing of its parts, so that
-/// a proof doesn't carry them. A number that no node of the site may have is answered by none.
+/// a proof doesn't carry them. A number, a segment or a line that the site doesn't have is answered by none.
 pub trait Stored {
     /// A store on a first image of a site, of which the device calls of these numbers fail, counted from 1; none where the
     /// image has no contents.
@@ -36,8 +40,20 @@ pub trait Stored {
         failing: &[u64],
     ) -> Result<Option<Self>, AllocError>;
 
-    /// A second store, opened on what reads give; none where that has no contents.
+    /// A second store, on a machine of its own, opened on what reads give; none where that has no contents.
     fn again(&self, alloc: Global, failing: &[u64]) -> Result<Option<Self>, AllocError>;
+
+    /// A second store, on a machine of its own, opened on what a stop leaves; none where the moment is to come, or what a
+    /// stop leaves has no contents.
+    fn after_stop(
+        &self,
+        alloc: Global,
+        moment: u64,
+        tear: Tear,
+    ) -> Result<Option<Self>, AllocError>;
+
+    /// A second store on the machine that this one gives back, opened on what reads give; none where that has no contents.
+    fn reopened(self, alloc: Global) -> Result<Option<Self>, AllocError>;
 
     /// Gives a number a node in place of what it has.
     fn make(&mut self, alloc: Global, ino: u32, node: &PlainNode) -> Option<Prepared>;
@@ -60,6 +76,33 @@ pub trait Stored {
 
     fn flush(&mut self, alloc: Global) -> UnitAnswer;
 
+    /// Flushes what is dirty or noted, and then writes a checkpoint.
+    fn checkpoint(&mut self, alloc: Global) -> UnitAnswer;
+
+    fn reserve(&mut self, alloc: Global, tables: u32) -> Prepared;
+
+    /// Notes a change of a slot or a volume; none where it is no such change of the site.
+    fn note(&mut self, change: TableRecord) -> Option<Result<(), AllocError>>;
+
+    fn slot(&self, tseg: u32) -> Option<Slot>;
+
+    /// Whether a volume is full.
+    fn is_full(&self, volume: u32) -> Option<bool>;
+
+    /// Reads a line; none also where the buffer isn't as long as one.
+    fn load_line(&mut self, line: u32, buf: &mut SegBuf) -> Option<Result<(), Failed>>;
+
+    /// Writes a line; none also where the buffer isn't as long as one.
+    fn store_line(&mut self, line: u32, buf: &SegBuf) -> Option<Result<(), Failed>>;
+
+    fn sync(&mut self) -> Result<(), Failed>;
+
+    /// Sets an empty line aside; false where it isn't empty.
+    fn set_line_aside(&mut self, line: u32) -> bool;
+
+    /// Gives a line that was set aside to a segment; none where it wasn't, or another line has the segment.
+    fn bind_line(&mut self, tseg: u32, line: u32) -> Option<Result<(), AllocError>>;
+
     fn node(&mut self, alloc: Global, ino: u32) -> Option<NodeFound>;
 
     fn block(&mut self, alloc: Global, ino: u32, i: u32, out: &mut [u8; BLOCK]) -> Option<Found>;
@@ -71,8 +114,14 @@ pub trait Stored {
     /// The number of live blocks of a log segment; none where the log has no such segment.
     fn live(&self, seg: u32) -> Option<u32>;
 
+    /// The log segment of the log's head.
+    fn head(&self) -> u32;
+
     /// The moment that it is.
     fn now(&self) -> u64;
+
+    /// The disk that a stop leaves; none where the moment is to come.
+    fn image(&self, alloc: Global, moment: u64, tear: Tear) -> Result<Option<Vec<u8>>, AllocError>;
 
     /// The nodes of what a stop leaves, by their numbers from 0 on; none where the moment is to come, or what a stop leaves
     /// has no contents, or none that are sound.
@@ -83,7 +132,8 @@ pub trait Stored {
         tear: Tear,
     ) -> Result<Option<Vec<Option<FoundNode>>>, AllocError>;
 
-    /// The files of what a stop leaves; none where the moment is to come, or it has none.
+    /// The files of what a stop leaves, with the segment of a first image that is home; none where the moment is to come, or
+    /// it has none.
     fn files(
         &self,
         alloc: Global,
@@ -104,19 +154,20 @@ impl Model for Trial {
     ghost view = { λ _. tt };
 }
 
-impl Trial {
-    /// The disk that a stop at a moment may leave; none where the moment is to come.
-    fn stopped(
-        &self,
-        alloc: Global,
-        moment: u64,
-        tear: Tear,
-    ) -> Result<Option<Vec<u8>>, AllocError> {
-        let machine = self.store.machine();
-        if moment > machine.now() {
-            return Ok(None);
-        }
-        Ok(Some(machine.stop_image(alloc, moment, tear)?))
+/// The segment of a first image that is home.
+fn shelf_of(alloc: Global, k: u32) -> Result<ShelfSegment, AllocError> {
+    let segment = HOME.sealed(alloc, k)?;
+    Ok(ShelfSegment {
+        serial: HOME.serial,
+        bytes: segment.part(0, segment.blocks()).to_vec(alloc)?,
+    })
+}
+
+/// A store that was opened, if one was.
+fn trial_of(store: Option<Store<MemMachine>>) -> Option<Trial> {
+    match store {
+        Some(store) => Some(Trial { store }),
+        None => None,
     }
 }
 
@@ -129,20 +180,37 @@ impl Stored for Trial {
     ) -> Result<Option<Trial>, AllocError> {
         let site = site.geometry(alloc)?;
         let image = image_of(alloc, &site, first)?;
-        match open_on(alloc, &site, image.as_slice(), failing)? {
-            Some(store) => Ok(Some(Trial { store })),
-            None => Ok(None),
-        }
+        Ok(trial_of(open_on(alloc, &site, image.as_slice(), failing)?))
     }
 
     fn again(&self, alloc: Global, failing: &[u64]) -> Result<Option<Trial>, AllocError> {
-        let Some(image) = self.stopped(alloc, self.now(), Tear::New)? else {
+        let Some(image) = self.image(alloc, self.now(), Tear::New)? else {
             return Ok(None);
         };
-        match open_on(alloc, self.store.geometry(), image.as_slice(), failing)? {
-            Some(store) => Ok(Some(Trial { store })),
-            None => Ok(None),
-        }
+        let site = self.store.geometry();
+        Ok(trial_of(open_on(alloc, site, image.as_slice(), failing)?))
+    }
+
+    fn after_stop(
+        &self,
+        alloc: Global,
+        moment: u64,
+        tear: Tear,
+    ) -> Result<Option<Trial>, AllocError> {
+        let Some(image) = self.image(alloc, moment, tear)? else {
+            return Ok(None);
+        };
+        let site = self.store.geometry();
+        Ok(trial_of(open_on(alloc, site, image.as_slice(), &[])?))
+    }
+
+    fn reopened(self, alloc: Global) -> Result<Option<Trial>, AllocError> {
+        let Some(image) = self.image(alloc, self.now(), Tear::New)? else {
+            return Ok(None);
+        };
+        let site = self.store.geometry().copy(alloc)?;
+        let machine = self.store.into_machine();
+        Ok(trial_of(open_over(alloc, &site, image.as_slice(), machine)?))
     }
 
     fn make(&mut self, alloc: Global, ino: u32, node: &PlainNode) -> Option<Prepared> {
@@ -177,6 +245,46 @@ impl Stored for Trial {
 
     fn flush(&mut self, alloc: Global) -> UnitAnswer {
         self.store.flush(alloc)
+    }
+
+    fn checkpoint(&mut self, alloc: Global) -> UnitAnswer {
+        checkpoint(&mut self.store, alloc)
+    }
+
+    fn reserve(&mut self, alloc: Global, tables: u32) -> Prepared {
+        self.store.reserve(alloc, tables)
+    }
+
+    fn note(&mut self, change: TableRecord) -> Option<Result<(), AllocError>> {
+        note(&mut self.store, change)
+    }
+
+    fn slot(&self, tseg: u32) -> Option<Slot> {
+        self.store.slots().items().get(tseg as usize).copied()
+    }
+
+    fn is_full(&self, volume: u32) -> Option<bool> {
+        self.store.slots().full().get(volume as usize).copied()
+    }
+
+    fn load_line(&mut self, line: u32, buf: &mut SegBuf) -> Option<Result<(), Failed>> {
+        load_line(&mut self.store, line, buf)
+    }
+
+    fn store_line(&mut self, line: u32, buf: &SegBuf) -> Option<Result<(), Failed>> {
+        store_line(&mut self.store, line, buf)
+    }
+
+    fn sync(&mut self) -> Result<(), Failed> {
+        self.store.sync()
+    }
+
+    fn set_line_aside(&mut self, line: u32) -> bool {
+        set_line_aside(&mut self.store, line)
+    }
+
+    fn bind_line(&mut self, tseg: u32, line: u32) -> Option<Result<(), AllocError>> {
+        bind_line(&mut self.store, tseg, line)
     }
 
     fn node(&mut self, alloc: Global, ino: u32) -> Option<NodeFound> {
@@ -216,8 +324,20 @@ impl Stored for Trial {
         Some(self.store.live(seg))
     }
 
+    fn head(&self) -> u32 {
+        self.store.head()
+    }
+
     fn now(&self) -> u64 {
         self.store.machine().now()
+    }
+
+    fn image(&self, alloc: Global, moment: u64, tear: Tear) -> Result<Option<Vec<u8>>, AllocError> {
+        let machine = self.store.machine();
+        if moment > machine.now() {
+            return Ok(None);
+        }
+        Ok(Some(machine.stop_image(alloc, moment, tear)?))
     }
 
     fn nodes(
@@ -227,7 +347,7 @@ impl Stored for Trial {
         tear: Tear,
     ) -> Result<Option<Vec<Option<FoundNode>>>, AllocError> {
         let site = self.store.geometry();
-        let Some(image) = self.stopped(alloc, moment, tear)? else {
+        let Some(image) = self.image(alloc, moment, tear)? else {
             return Ok(None);
         };
         if !has_log(site, image.as_slice()) {
@@ -249,12 +369,15 @@ impl Stored for Trial {
         moment: u64,
         tear: Tear,
     ) -> Result<Option<PlainTree>, AllocError> {
-        let Some(image) = self.stopped(alloc, moment, tear)? else {
+        let Some(image) = self.image(alloc, moment, tear)? else {
             return Ok(None);
         };
         if image.len() >= 1 << 44 {
             return Ok(None);
         }
-        files_of(alloc, image.as_slice(), self.store.geometry(), &[])
+        let site = self.store.geometry();
+        let home = shelf_of(alloc, site.k)?;
+        let shelf = vec![in alloc; home]?;
+        files_of(alloc, image.as_slice(), site, shelf.as_slice())
     }
 }

@@ -1,0 +1,74 @@
+#!/usr/bin/env python3
+"""What a store costs beyond the disk calls that it makes.
+
+4,000 blocks of 4,096 bytes are put into a store in units of 64 blocks, each unit is flushed, and all are read back, over a
+file in a new folder. Beside that the same number of writes of the same number of blocks, the same syncs and as many reads
+as the store made are made directly of the same kind of disk. Both begin with the first image of a site of 80 log segments,
+and what a run without a block takes is taken off. It runs the program that `rt ci` or `rt run` leaves in
+crates/hl_store_bench/out/, each run five times, and prints
+
+  - the calls of both;
+  - the processor time of both, user and system, the least of the five runs, and their ratio, which is to be at most 2;
+  - the resolution of the processor clock.
+
+    python3 bench/store.py [PROGRAM]
+"""
+import os
+import re
+import subprocess
+import sys
+import tempfile
+import time
+
+BLOCKS = 4_000
+RUNS = 5
+MOST = 2.0
+
+
+def run(program, words, folder):
+    """Runs the program, and answers its processor seconds and the numbers of its line."""
+    read, write = os.pipe()
+    child = subprocess.Popen([program, *words], stdin=subprocess.DEVNULL, stdout=write, cwd=folder)
+    os.close(write)
+    with os.fdopen(read) as out:
+        line = out.read()
+    _, status, used = os.wait4(child.pid, 0)
+    child.returncode = os.waitstatus_to_exitcode(status)
+    if child.returncode:
+        sys.exit(f"{' '.join(words)}: status {child.returncode}")
+    return used.ru_utime, used.ru_stime, [int(word) for word in re.findall(r"\d+", line)]
+
+
+def least(program, words, folder):
+    """The least processor time of some runs, as user and system seconds, and the numbers of the line."""
+    runs = [run(program, words, folder) for _ in range(RUNS)]
+    return min(runs, key=lambda it: it[0] + it[1])
+
+
+def beyond(program, words, empty, folder):
+    """What the words take beyond those of a run without a block, and the numbers of the line."""
+    user, system, numbers = least(program, words, folder)
+    base_user, base_system, _ = least(program, empty, folder)
+    return user - base_user, system - base_system, numbers
+
+
+def main():
+    top = os.path.dirname(os.path.dirname(os.path.abspath(__file__)))
+    ready = os.path.join(top, "crates/hl_store_bench/out/hl_store_bench")
+    program = os.path.abspath(sys.argv[1] if len(sys.argv) > 1 else ready)
+    with tempfile.TemporaryDirectory(dir=top) as folder:
+        user, system, (writes, blocks, syncs, reads) = beyond(program, ["store", str(BLOCKS)], ["store", "0"], folder)
+        words = ["direct", str(writes // 2), str(blocks), str(reads)]
+        direct_user, direct_system, direct = beyond(program, words, ["direct", "0", "0", "0"], folder)
+    store_time, direct_time = user + system, direct_user + direct_system
+    print(f"{BLOCKS} blocks in units of 64")
+    print(f"store: {writes} writes of {blocks} blocks, {syncs} syncs, {reads} reads: user {user:.4f} s, system {system:.4f} s")
+    print("direct: {} writes of {} blocks, {} syncs, {} reads:".format(*direct), end="")
+    print(f" user {direct_user:.4f} s, system {direct_system:.4f} s")
+    print(f"store {store_time:.4f} s, direct {direct_time:.4f} s, ratio {store_time / direct_time:.2f}, to be at most {MOST}")
+    print(f"clock resolution {time.clock_getres(time.CLOCK_PROCESS_CPUTIME_ID)} s, told in microseconds")
+    return 0 if store_time <= MOST * direct_time else 1
+
+
+if __name__ == "__main__":
+    sys.exit(main())
