@@ -1,8 +1,7 @@
 -- How a call ends that changed nothing.
-use Rattle.std.proofs.Common.{arith, ◌≡◌, ℕ, Bool, true, false, nat_lt, List, [], Option, Some, Result, Ok, Err, option_map, refl, ap, ◌∙◌, sym, subst}
-use Rattle.std.specs.Prelude.{◌&&◌, slice_index}
+use Rattle.std.proofs.Common.{◌≡◌, ℕ, true, List, [], Option, Some, Result, Ok, Err, option_map, refl, ap, ◌∙◌, sym, subst}
+use Rattle.std.specs.Prelude.{slice_index}
 use Rattle.std.specs.FinMap.{get}
-use Rattle.std.proofs.lemmas.Bool.Decides.{nat_tests}
 use Rattle.hl_media.specs.Causes.{Rose}
 use Rattle.hl_media.specs.History.{History, MachineState, state_now}
 use Rattle.hl_media.specs.Moments.{Now, Runs}
@@ -17,7 +16,6 @@ use Rattle.hl_tree.specs.declared.call.Refusal.{Refusal}
 use Rattle.hl_placed.specs.Blocks.{PlacedFile, Shelf}
 use Rattle.hl_paths.specs.ByNumbers.{NumberedDone, numbered_left, numbered_reply}
 use Rattle.hl_paths.specs.Charges.{nodes_charge}
-use Rattle.hl_paths.specs.Files.{is_over_quota, is_taken}
 use Rattle.hl_paths.specs.Numbered.{Numbering}
 use Rattle.hl_nodes.specs.Contents.{Contents}
 use Rattle.hl_overlaid.specs.Changes.{node_used}
@@ -28,21 +26,8 @@ use Rattle.hl_ranges.specs.Needs.{AreAtHand}
 use Rattle.hl_walk.specs.Trees.{AreKnown, KnowsTree, known_node}
 use Rattle.hl_calls.specs.declared.step.FileStep.TheVariants as step
 use Rattle.hl_calls.specs.Trees.{OfFiles}
+use Rattle.hl_calls.proofs.Quotas.{is_over_quota-same}
 use Rattle.hl_calls.specs.Calls.{IsDone, IsNeed, KeepsTables, LeavesNodes, MakesCall, UsesLines, done_by, is_over, needed_by}
-
-never : (b : Bool) → (b && false) ≡ false
-never true = refl
-never false = refl
-
-not_below : (n : ℕ) → nat_lt n n ≡ false
-not_below n = grind (arith, nat_tests)
-
--- a call that leaves the nodes as they were is over no quota
-pub not_over : (quota : ℕ) (numbered : Numbering PlacedFile) (done : NumberedDone PlacedFile) → numbered_left numbered done ≡ numbered → is_over_quota quota numbered done ≡ false
-not_over quota numbered done same =
-    ap (λ (left : Numbering PlacedFile). is_taken done && (nat_lt quota (nodes_charge left) && nat_lt (nodes_charge numbered) (nodes_charge left))) same
-    ∙ ap (λ b. is_taken done && (nat_lt quota (nodes_charge numbered) && b)) (not_below (nodes_charge numbered))
-    ∙ ap (λ b. is_taken done && b) (never (nat_lt quota (nodes_charge numbered))) ∙ never (is_taken done)
 
 module _ {M : Type 0} (history : M → Option History) (old new : StoreValue M)
     (run : Runs (history old.log.machine) (history new.log.machine) IsUnchanged) where
@@ -88,7 +73,7 @@ module _ {M : Type 0} (history : M → Option History) (old new : StoreValue M)
           let facts = is h told c lies shelf numbered shows knows placed in
           record {
             reply_is = facts.0;
-            within = not_over (quota (layout old)) numbered (done_by old shelf numbered now call) facts.1;
+            within = is_over_quota-same (quota (layout old)) numbered (done_by old shelf numbered now call) (ap nodes_charge facts.1);
             uses = record {
               tsegs = [];
               at_hand = subst (AreAtHand old []) (sym facts.2) tt;

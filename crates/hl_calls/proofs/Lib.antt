@@ -1,4 +1,13 @@
+pub mod BlockCounts
 pub mod Chains
+pub mod ChangedBlocks
+pub mod ChargeSums
 pub mod Ends
+pub mod FileReads
 pub mod FreeNumbers
+pub mod GrownCharges
+pub mod GrownFiles
 pub mod KnownChanges
+pub mod MappedRows
+pub mod Quotas
+pub mod ResidentCounts

@@ -1,3 +1,5 @@
 pub mod Calls
+pub mod Counting
 pub mod Growths
+pub mod Residents
 pub mod Trees

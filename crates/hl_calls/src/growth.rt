@@ -1,10 +1,11 @@
 //! How much a change of a file changes what it is charged.
 
-ghost use Rattle.std.specs.Prelude.{◌≡◌, ◌+◌, ◌<◌, ◌≤◌, IfErr, IfOk, length};
+ghost use Rattle.std.specs.Prelude.{◌≡◌, ◌+◌, ◌-◌, ◌<◌, ◌≤◌, IfErr, IfOk, length};
 ghost use Rattle.hl_log.specs.Logs.{OnlyReads};
 ghost use Rattle.hl_store.specs.Finding.{ReadsNodes};
 ghost use Rattle.hl_store.specs.Shapes.{IsNumber};
 ghost use Rattle.hl_ranges.specs.Writing.{Stops};
+ghost use Rattle.hl_calls.specs.Counting.{CountsEdge, CountsHere, FindsBlocks, HasCount, HasSize};
 ghost use Rattle.hl_calls.specs.Growths.{GrowsByCut, GrowsByWrite};
 
 use hl_media::Machine;
@@ -96,6 +97,8 @@ pub fn cut_growth<M: Machine>(
 /// The size of a node, in bytes.
 fn file_size<M: Machine>(store: &mut Store<M>, alloc: Global, ino: u32) -> Result<u64, RangeStep>
     requires number { IsNumber store.old ino }
+    ensures size { IfOk result (HasSize M.history store.old ino) }
+    ensures most { IfOk result (λ size. size ≤ 4243456) }
     ensures stops { IfErr result (Stops M.faults store.old store.new) }
     ensures reads { ReadsNodes M.history store.old store.new }
     ensures machine { OnlyReads M.history M.blocks M.faults M.write_faults M.say_faults
@@ -115,6 +118,7 @@ fn file_blocks<M: Machine>(
     ino: u32,
 ) -> Result<u32, RangeStep>
     requires number { IsNumber store.old ino }
+    ensures blocks { IfOk result (HasCount M.history store.old ino) }
     ensures stops { IfErr result (Stops M.faults store.old store.new) }
     ensures reads { ReadsNodes M.history store.old store.new }
     ensures machine { OnlyReads M.history M.blocks M.faults M.write_faults M.say_faults
@@ -133,13 +137,16 @@ fn count_here<M: Machine>(
     end: u32,
 ) -> Result<u32, RangeStep>
     requires number { IsNumber store.old ino }
+    requires order { from ≤ end }
+    ensures count { IfOk result (CountsHere M.history store.old ino from end) }
+    ensures most { IfOk result (λ count. count ≤ end - from) }
     ensures stops { IfErr result (Stops M.faults store.old store.new) }
     ensures reads { ReadsNodes M.history store.old store.new }
     ensures machine { OnlyReads M.history M.blocks M.faults M.write_faults M.say_faults
         store.old.log.machine store.new.log.machine }
 {
     let mut count = 0;
-    'blocks: for i in from..end {
+    'each: for i in from..end {
         match store.place(alloc, ino, i) {
             Placed::Here => count += 1,
             Placed::Hole | Placed::Away { .. } => {}
@@ -159,6 +166,7 @@ fn count_edge<M: Machine>(
 ) -> Result<u32, RangeStep>
     requires number { IsNumber store.old ino }
     requires size { size ≤ 4243456 }
+    ensures edge { IfOk result (CountsEdge M.history store.old ino size) }
     ensures stops { IfErr result (Stops M.faults store.old store.new) }
     ensures reads { ReadsNodes M.history store.old store.new }
     ensures machine { OnlyReads M.history M.blocks M.faults M.write_faults M.say_faults
@@ -184,12 +192,13 @@ fn has_block<M: Machine>(
     end: u32,
 ) -> Result<bool, RangeStep>
     requires number { IsNumber store.old ino }
+    ensures found { IfOk result (FindsBlocks M.history store.old ino from end) }
     ensures stops { IfErr result (Stops M.faults store.old store.new) }
     ensures reads { ReadsNodes M.history store.old store.new }
     ensures machine { OnlyReads M.history M.blocks M.faults M.write_faults M.say_faults
         store.old.log.machine store.new.log.machine }
 {
-    'blocks: for i in from..end {
+    'each: for i in from..end {
         match store.place(alloc, ino, i) {
             Placed::Hole => {}
             Placed::Here | Placed::Away { .. } => return Ok(true),

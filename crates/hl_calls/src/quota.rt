@@ -15,7 +15,7 @@ const DIRECT: u32 = 12;
 
 /// Whether a change of what the nodes are charged takes it above the quota of the site and makes it grow.
 pub fn is_over<M: Machine>(store: &Store<M>, growth: &Growth) -> bool
-    ensures { (after : ℕ) → Grows growth store.now.tally.charge after
+    ensures { (after : ℕ) → Grows growth.now store.now.tally.charge after
         → result ≡ exceeds (quota (layout store.now)) store.now.tally.charge after }
 {
     let before = store.charge() as u64 + growth.added as u64;

@@ -22,12 +22,13 @@ module _ {M : Type 0} where
       ≡ option_map flat_node (get numbered number)
 
   -- the nodes that the store has now are these, and make one tree
-  pub record KnowsTree (v : StoreValue M) (c : Contents) (numbered : Numbering PlacedFile) : Type 0 where
+  pub record KnowsTree (v : StoreValue M) (c : Contents)
+      (numbered : Numbering PlacedFile) : Type 0 where
     pub known : AreKnown v c numbered
     pub linked : AreLinked numbered
 
   -- at this moment, whatever contents the store lies over, P holds of the tree that its nodes make, if they make one
-  abbrev pub OfTree : (M → Option History) → StoreValue M → (Contents → Numbering PlacedFile → Type 0)
-      → Type 0
-  OfTree history v P =
-      OverNow history v (λ s c. (numbered : Numbering PlacedFile) → KnowsTree v c numbered → P c numbered)
+  abbrev pub OfTree : (M → Option History) → StoreValue M
+      → (Contents → Numbering PlacedFile → Type 0) → Type 0
+  OfTree history v P = OverNow history v
+      (λ s c. (numbered : Numbering PlacedFile) → KnowsTree v c numbered → P c numbered)

@@ -4,7 +4,7 @@ ghost use Rattle.std.specs.Prelude.{◌≡◌, ◌<◌, IfErr, IfOk, IsTrue, len
 ghost use Rattle.hl_log.specs.Logs.{OnlyReads};
 ghost use Rattle.hl_store.specs.Finding.{ReadsNodes};
 ghost use Rattle.hl_store.specs.Shapes.{IsNumber};
-ghost use Rattle.hl_walk.specs.Walks.{Halts, HasNoParent, HasParent, LeadsNowhere, LeadsTo};
+ghost use Rattle.hl_walk.specs.Walks.{Halts, HasEntries, HasNoChild, HasNoEntries, HasNoParent, HasParent, IsChild, LeadsNowhere, LeadsTo};
 
 use hl_media::Machine;
 use hl_ranges::{DirectoryFound, read_directory};
@@ -41,6 +41,15 @@ pub fn is_number<M: Machine>(store: &Store<M>, number: u32) -> bool
     1 <= number && number < store.geometry().inodes
 }
 
+/// The number of the root, which each site has.
+fn root_of<M: Machine>(store: &Store<M>) -> u32
+    ensures is { result ≡ 1 }
+    ensures number { IsNumber store.now result }
+{
+    let _ = store.geometry();
+    ROOT
+}
+
 /// The number that a path leads to. Each name but the last must be that of a directory: `Enotdir` comes where one is a
 /// file's, and `Enoent` where one isn't there.
 pub fn find_number<M: Machine>(
@@ -56,7 +65,7 @@ pub fn find_number<M: Machine>(
     ensures machine { OnlyReads M.history M.blocks M.faults M.write_faults M.say_faults
         store.old.log.machine store.new.log.machine }
 {
-    let mut number = ROOT;
+    let mut number = root_of(store);
     'names: for name in path {
         number = child_of(store, alloc, number, name.items())?;
     }
@@ -83,12 +92,12 @@ pub fn find_parent<M: Machine>(
 }
 
 /// The bytes of a directory.
-fn entries_of<M: Machine>(
-    store: &mut Store<M>,
-    alloc: Global,
-    number: u32,
-) -> Result<Vec<u8>, Halt>
+fn entries_of<M: Machine>(store: &mut Store<M>, alloc: Global, number: u32) -> Result<Vec<u8>, Halt>
     requires number { IsNumber store.old number }
+    ensures entries { IfOk result
+        (λ bytes. HasEntries M.history store.old store.new number bytes.items) }
+    ensures halts { IfErr result
+        (Halts M.history M.faults store.old store.new (HasNoEntries number)) }
     ensures reads { ReadsNodes M.history store.old store.new }
     ensures machine { OnlyReads M.history M.blocks M.faults M.write_faults M.say_faults
         store.old.log.machine store.new.log.machine }
@@ -109,6 +118,10 @@ fn child_of<M: Machine>(
     name: &[u8],
 ) -> Result<u32, Halt>
     requires number { IsNumber store.old number }
+    ensures child { IfOk result (IsChild M.history store.old number name.now) }
+    ensures number { IfOk result (IsNumber store.old) }
+    ensures halts { IfErr result
+        (Halts M.history M.faults store.old store.new (HasNoChild number name.now)) }
     ensures reads { ReadsNodes M.history store.old store.new }
     ensures machine { OnlyReads M.history M.blocks M.faults M.write_faults M.say_faults
         store.old.log.machine store.new.log.machine }

@@ -1,0 +1,4 @@
+pub mod NeverUsed
+pub mod KnownTrees
+pub mod KeptTrees
+mod WalkSteps
