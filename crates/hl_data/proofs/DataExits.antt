@@ -68,9 +68,10 @@ module _ (limits : Limits) (nodes : Numbering PlacedFile) (path : List (List ℕ
       at_node m (Some (Directory es)) leads there e = absurd cc
       at_node m (Some (Leaf content)) leads there e =
           let d : FileAt PlacedFile = record { number = number; content = file } in
-          let same : record { number = m; content = content } ≡ d = ap (ok_or d) e in
-          (leads ∙ ap Ok (ap (λ (f : FileAt PlacedFile). f.number) same),
-           subst (λ n. get nodes n ≡ Some (Leaf file)) (ap (λ (f : FileAt PlacedFile). f.number) same) (there ∙ ap (λ (f : FileAt PlacedFile). Some (Leaf f.content)) same))
+          let same : record { number = m; content = content } ≡ d = ap (ok_or d) e in (
+            leads ∙ ap Ok (ap (λ (f : FileAt PlacedFile). f.number) same),
+            subst (λ n. get nodes n ≡ Some (Leaf file)) (ap (λ (f : FileAt PlacedFile). f.number) same) (there ∙ ap (λ (f : FileAt PlacedFile). Some (Leaf f.content)) same),
+          )
 
       by_number : (r : Result ℕ Refusal) → find_number nodes path ≡ r
           → file_under nodes r ≡ Ok (record { number = number; content = file }) → goal

@@ -4,10 +4,10 @@ ghost use Rattle.hl_log.specs.Logs.{OnlyReads};
 ghost use Rattle.hl_tree.specs.declared.call.Call.TheVariants as calls;
 ghost use Rattle.hl_calls.specs.Calls.{MakesCall};
 
-use crate::entries::{node_of, refused};
 use hl_calls::FileStep;
 use hl_entries::{count, names};
 use hl_inode::Kind;
+use hl_links::node_of;
 use hl_media::Machine;
 use hl_ranges::{DirectoryFound, read_directory};
 use hl_store::Store;
@@ -25,7 +25,7 @@ pub fn list<M: Machine>(store: &mut Store<M>, alloc: Global, now: u64, path: &Pa
 {
     let _ = now;
     if is_too_long(path.names()) {
-        return refused(Refusal::Enametoolong);
+        return FileStep::Done(Reply::Refused(Refusal::Enametoolong));
     }
     let number = match find_number(store, alloc, path.names()) {
         Ok(number) => number,
@@ -33,7 +33,7 @@ pub fn list<M: Machine>(store: &mut Store<M>, alloc: Global, now: u64, path: &Pa
     };
     let bytes = match read_directory(store, alloc, number) {
         DirectoryFound::Bytes(bytes) => bytes,
-        DirectoryFound::File => return refused(Refusal::Enotdir),
+        DirectoryFound::File => return FileStep::Done(Reply::Refused(Refusal::Enotdir)),
         DirectoryFound::DiskFault => return FileStep::DiskFault,
         DirectoryFound::Memory => return FileStep::Memory,
     };
@@ -53,7 +53,7 @@ pub fn stat<M: Machine>(store: &mut Store<M>, alloc: Global, now: u64, path: &Pa
 {
     let _ = now;
     if is_too_long(path.names()) {
-        return refused(Refusal::Enametoolong);
+        return FileStep::Done(Reply::Refused(Refusal::Enametoolong));
     }
     let number = match find_number(store, alloc, path.names()) {
         Ok(number) => number,

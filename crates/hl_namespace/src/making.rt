@@ -4,10 +4,10 @@ ghost use Rattle.hl_log.specs.Logs.{OnlyReads};
 ghost use Rattle.hl_tree.specs.declared.call.Call.TheVariants as calls;
 ghost use Rattle.hl_calls.specs.Calls.{MakesCall};
 
-use crate::entries::{Changed, prepare, refused};
 use hl_calls::{FILE_MAX, FileStep, Growth, directory_charge, is_over};
 use hl_entries::{find, insert};
 use hl_inode::Kind;
+use hl_links::{DirectoryChange, prepare};
 use hl_media::Machine;
 use hl_store::{Node, Store};
 use hl_tree::{Path, Refusal, Reply, is_too_long};
@@ -49,27 +49,27 @@ pub fn create<M: Machine>(store: &mut Store<M>, alloc: Global, now: u64, path: &
 fn make<M: Machine>(store: &mut Store<M>, alloc: Global, path: &Path, node: &Node) -> FileStep {
     let names = path.names();
     if is_too_long(names) {
-        return refused(Refusal::Enametoolong);
+        return FileStep::Done(Reply::Refused(Refusal::Enametoolong));
     }
     let Some(name) = names.last() else {
-        return refused(Refusal::Eexist);
+        return FileStep::Done(Reply::Refused(Refusal::Eexist));
     };
     let parent = match find_parent(store, alloc, names) {
         Ok(parent) => parent,
         Err(halt) => return FileStep::halted(halt),
     };
     if find(parent.bytes.as_slice(), name.items()).is_some() {
-        return refused(Refusal::Eexist);
+        return FileStep::Done(Reply::Refused(Refusal::Eexist));
     }
     let Some(number) = store.lowest_free() else {
-        return refused(Refusal::Einodes);
+        return FileStep::Done(Reply::Refused(Refusal::Einodes));
     };
     let before = parent.bytes.as_slice().len();
     let mut bytes = parent.bytes;
     let Ok(from) = insert(&mut bytes, name.items(), number) else {
         return FileStep::Memory;
     };
-    let changed = Changed {
+    let changed = DirectoryChange {
         number: parent.number,
         bytes,
         from,
@@ -82,7 +82,7 @@ fn add<M: Machine>(
     store: &mut Store<M>,
     alloc: Global,
     before: usize,
-    changed: &Changed,
+    changed: &DirectoryChange,
     number: u32,
     node: &Node,
 ) -> FileStep {

@@ -4,12 +4,12 @@ ghost use Rattle.hl_log.specs.Logs.{OnlyReads};
 ghost use Rattle.hl_tree.specs.declared.call.Call.TheVariants as calls;
 ghost use Rattle.hl_calls.specs.Calls.{MakesCall};
 
-use crate::entries::{Changed, node_of, prepare, refused};
 use hl_calls::FileStep;
 use hl_entries::{find, remove};
 use hl_inode::Kind;
+use hl_links::{DirectoryChange, node_of, prepare, why_kept};
 use hl_media::Machine;
-use hl_store::{Node, Store};
+use hl_store::Store;
 use hl_tree::{Path, Refusal, Reply, is_too_long};
 use hl_walk::find_parent;
 use std::alloc::Global;
@@ -38,53 +38,37 @@ pub fn rmdir<M: Machine>(store: &mut Store<M>, alloc: Global, now: u64, path: &P
     take(store, alloc, path, Kind::Dir)
 }
 
-/// Why a node can't be taken away as one of a kind.
-fn why_not(kind: Kind, node: &Node) -> Option<Refusal> {
-    match (kind, node.kind) {
-        (Kind::File, Kind::File) => None,
-        (Kind::File, Kind::Dir) => Some(Refusal::Eisdir),
-        (Kind::Dir, Kind::File) => Some(Refusal::Enotdir),
-        (Kind::Dir, Kind::Dir) => {
-            if node.size == 0 {
-                None
-            } else {
-                Some(Refusal::Enotempty)
-            }
-        }
-    }
-}
-
 /// Takes a node of a kind away, and its name.
 fn take<M: Machine>(store: &mut Store<M>, alloc: Global, path: &Path, kind: Kind) -> FileStep {
     let names = path.names();
     if is_too_long(names) {
-        return refused(Refusal::Enametoolong);
+        return FileStep::Done(Reply::Refused(Refusal::Enametoolong));
     }
     let Some(name) = names.last() else {
-        return refused(match kind {
+        return FileStep::Done(Reply::Refused(match kind {
             Kind::File => Refusal::Eisdir,
             Kind::Dir => Refusal::Einval,
-        });
+        }));
     };
     let parent = match find_parent(store, alloc, names) {
         Ok(parent) => parent,
         Err(halt) => return FileStep::halted(halt),
     };
     let Some(place) = find(parent.bytes.as_slice(), name.items()) else {
-        return refused(Refusal::Enoent);
+        return FileStep::Done(Reply::Refused(Refusal::Enoent));
     };
     let node = match node_of(store, alloc, place.ino) {
         Ok(node) => node,
         Err(step) => return step,
     };
-    if let Some(why) = why_not(kind, &node) {
-        return refused(why);
+    if let Some(why) = why_kept(kind, &node) {
+        return FileStep::Done(Reply::Refused(why));
     }
     let mut bytes = parent.bytes;
     let Some(from) = remove(&mut bytes, name.items()) else {
         return FileStep::Memory;
     };
-    let changed = Changed {
+    let changed = DirectoryChange {
         number: parent.number,
         bytes,
         from,
@@ -96,7 +80,7 @@ fn take<M: Machine>(store: &mut Store<M>, alloc: Global, path: &Path, kind: Kind
 fn drop_node<M: Machine>(
     store: &mut Store<M>,
     alloc: Global,
-    changed: &Changed,
+    changed: &DirectoryChange,
     number: u32,
 ) -> FileStep {
     match changed.prepare(store, alloc) {

@@ -4,12 +4,12 @@ ghost use Rattle.hl_log.specs.Logs.{OnlyReads};
 ghost use Rattle.hl_tree.specs.declared.call.Call.TheVariants as calls;
 ghost use Rattle.hl_calls.specs.Calls.{MakesCall};
 
-use crate::entries::{Changed, node_of, prepare, refused};
 use hl_calls::{FILE_MAX, FileStep, Growth, directory_charge, is_over};
 use hl_entries::{find, insert, remove};
 use hl_inode::Kind;
+use hl_links::{DirectoryChange, node_of, prepare, why_kept};
 use hl_media::Machine;
-use hl_store::{Node, Store};
+use hl_store::Store;
 use hl_tree::{List, Path, Refusal, Reply, below, is_too_long};
 use hl_walk::{ParentFound, find_parent};
 use std::alloc::Global;
@@ -39,17 +39,17 @@ pub fn rename<M: Machine>(
 {
     let _ = now;
     if is_too_long(from.names()) || is_too_long(to.names()) {
-        return refused(Refusal::Enametoolong);
+        return FileStep::Done(Reply::Refused(Refusal::Enametoolong));
     }
     let Some(name) = from.names().last() else {
-        return refused(Refusal::Einval);
+        return FileStep::Done(Reply::Refused(Refusal::Einval));
     };
     let parent = match find_parent(store, alloc, from.names()) {
         Ok(parent) => parent,
         Err(halt) => return FileStep::halted(halt),
     };
     let Some(place) = find(parent.bytes.as_slice(), name.items()) else {
-        return refused(Refusal::Enoent);
+        return FileStep::Done(Reply::Refused(Refusal::Enoent));
     };
     let node = match node_of(store, alloc, place.ino) {
         Ok(node) => node,
@@ -61,26 +61,12 @@ pub fn rename<M: Machine>(
     };
     match below(from.names(), to.names()) {
         Some([]) => return FileStep::Done(Reply::Ok),
-        Some(_) if moving.kind == Kind::Dir => return refused(Refusal::Einval),
+        Some(_) if moving.kind == Kind::Dir => return FileStep::Done(Reply::Refused(
+            Refusal::Einval,
+        )),
         _ => {}
     }
     move_to(store, alloc, parent, name, &moving, to)
-}
-
-/// Why what stands at the target may not be replaced.
-fn why_not(moving: Kind, target: &Node) -> Option<Refusal> {
-    match (moving, target.kind) {
-        (Kind::File, Kind::File) => None,
-        (Kind::File, Kind::Dir) => Some(Refusal::Eisdir),
-        (Kind::Dir, Kind::File) => Some(Refusal::Enotdir),
-        (Kind::Dir, Kind::Dir) => {
-            if target.size == 0 {
-                None
-            } else {
-                Some(Refusal::Enotempty)
-            }
-        }
-    }
 }
 
 /// An entry that moves: from a name of one directory to a name of another, or of the same, where a number may stand.
@@ -103,10 +89,10 @@ fn move_to<M: Machine>(
     to: &Path,
 ) -> FileStep {
     let Some(to_name) = to.names().last() else {
-        return refused(match moving.kind {
+        return FileStep::Done(Reply::Refused(match moving.kind {
             Kind::Dir => Refusal::Enotempty,
             Kind::File => Refusal::Eisdir,
-        });
+        }));
     };
     let to_parent = match find_parent(store, alloc, to.names()) {
         Ok(to_parent) => to_parent,
@@ -143,8 +129,8 @@ fn target_of<M: Machine>(
         return Ok(None);
     };
     let target = node_of(store, alloc, place.ino)?;
-    match why_not(moving, &target) {
-        Some(why) => Err(refused(why)),
+    match why_kept(moving, &target) {
+        Some(why) => Err(FileStep::Done(Reply::Refused(why))),
         None => Ok(Some(place.ino)),
     }
 }
@@ -167,7 +153,7 @@ fn relink_within<M: Machine>(store: &mut Store<M>, alloc: Global, entry: Move) -
     if entry.target.is_none() && is_over(store, &growth) {
         return FileStep::NoSpace;
     }
-    let changed = Changed {
+    let changed = DirectoryChange {
         number: entry.parent.number,
         bytes,
         from: first.min(second),
@@ -200,12 +186,12 @@ fn relink_across<M: Machine>(store: &mut Store<M>, alloc: Global, entry: Move) -
     if entry.target.is_none() && is_over(store, &growth) {
         return FileStep::NoSpace;
     }
-    let left = Changed {
+    let left = DirectoryChange {
         number: entry.parent.number,
         bytes,
         from,
     };
-    let joined = Changed {
+    let joined = DirectoryChange {
         number: entry.to_parent.number,
         bytes: to_bytes,
         from: to_from,
@@ -229,8 +215,8 @@ fn charge_of(size: usize) -> u32 {
 fn prepare_both<M: Machine>(
     store: &mut Store<M>,
     alloc: Global,
-    changed: &Changed,
-    other: Option<&Changed>,
+    changed: &DirectoryChange,
+    other: Option<&DirectoryChange>,
     target: Option<u32>,
 ) -> Result<(), FileStep> {
     changed.prepare(store, alloc)?;
