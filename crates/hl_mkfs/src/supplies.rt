@@ -28,6 +28,7 @@ pub(crate) struct Supplies {
 }
 
 /// The block of the root's inode.
+#[tactic(auto, unfolding(crate::specs::Parts::root_bytes), using(crate::proofs::FirstTables::all_nothing))]
 fn root_block() -> Block
     ensures { result.bytes ≡ root_bytes }
 {
@@ -45,6 +46,7 @@ fn root_block() -> Block
 }
 
 /// The unit that brings the root's inode.
+#[tactic(auto, unfolding(crate::specs::Parts::root_unit))]
 fn root_unit(alloc: Global) -> Result<Unit, AllocError>
     ensures { IfOk result (λ unit. unit_of unit ≡ root_unit) }
 {

@@ -13,6 +13,7 @@ use hl_tables::Tables;
 use std::alloc::{AllocError, Global};
 
 /// The first tables: the root's inode lies in block 1 of the log's first segment, which is used.
+#[tactic(auto, unfolding(crate::specs::Parts::first_tables))]
 fn first_tables(alloc: Global, geometry: &Geometry) -> Result<Tables, AllocError>
     ensures { IfOk result (λ tables. tables ≡ first_tables geometry.now) }
 {

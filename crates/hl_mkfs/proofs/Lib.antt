@@ -1,0 +1,5 @@
+mod FirstTables
+mod RootNodes
+mod FirstCuts
+mod Rooting
+mod Founding
