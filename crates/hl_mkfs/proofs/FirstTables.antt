@@ -1,9 +1,11 @@
 -- The first tables, and the root's inode.
-use Rattle.std.proofs.Common.{◌≡◌, ◌≢◌, inl, inr, ℕ, zero, suc, ◌+◌, ◌*◌, ◌<◌, ◌≤◌, ◌^◌, Bool, true, false, List, [], ◌∷◌, length, replicate, get_or, refl, sym, ◌∙◌, ap, subst, arith, lit<}
+use Rattle.std.proofs.Common.{◌≡◌, ◌≢◌, inl, inr, ℕ, zero, suc, ◌+◌, ◌*◌, ◌<◌, ◌≤◌, ◌^◌, Bool, true, false, List, [], ◌∷◌, ◌++◌, length, map, replicate, get_or, refl, sym, ◌∙◌, ap, subst, arith, lit<}
 use Rattle.std.specs.Prelude.{All, sum, count_by, slice_index, slice_set}
-use Rattle.std.specs.List.{AllByRecursion, slice_index_or}
+use Rattle.std.specs.List.{AllByRecursion, range_with_len, slice_index_or}
 use Rattle.std.proofs.lemmas.List.{length-set, length-replicate, get_or-set_same, get_or-set_other, get_or-replicate}
 use Rattle.std.proofs.lemmas.List.Elements.{All-set, All-replicate}
+use Rattle.std.proofs.lemmas.List.FromFn.{map-range_with_len_more}
+use Rattle.hl_bytes.specs.declared.block.Block.{Block}
 use Rattle.hl_addr.specs.Layout.{Layout, IsWithinLimits, table_blocks, table_blocks_of}
 use Rattle.hl_inode.specs.Inodes.{AreNothing, Spells, inode_bytes}
 use Rattle.hl_tseg.specs.SlotTable.{SlotTable, slot_at}
@@ -11,7 +13,9 @@ use Rattle.hl_tseg.specs.SlotTable as slots
 use Rattle.hl_tseg.specs.Slots.{HasRoom, is_staged}
 use Rattle.hl_tseg.specs.declared.slot.Slot.{Slot}
 use Rattle.hl_tseg.specs.declared.slot.Slot.TheVariants.{Free}
-use Rattle.hl_tables.specs.Values.{AreTables, SameShape, fresh}
+use Rattle.hl_tables.specs.Values.{AreTables, SameShape, TableValues, fresh}
+use Rattle.hl_tables.specs.TableBlocks.{table_block}
+use Rattle.hl_log.specs.Loads.{bytes_of_tables}
 use Rattle.hl_log.proofs.Sites.{small_segments, large_segments}
 use Rattle.hl_mkfs.specs.Parts.{first_tables, root_address, root_bytes, root_inode}
 
@@ -95,3 +99,17 @@ root_spelled = record {
   };
   bytes = refl;
 }
+
+-- one block of the tables more
+pub table_more : (t : TableValues) (blocks next : List Block) (n : ℕ) (block : Block)
+    → bytes_of_tables blocks ≡ map (table_block t) (range_with_len 0 n) → block.bytes ≡ table_block t n → next ≡ blocks ++ block ∷ []
+    → bytes_of_tables next ≡ map (table_block t) (range_with_len 0 (n + 1))
+table_more t blocks next n block so_far bytes is =
+    ap bytes_of_tables is ∙ pushed blocks
+    ∙ ap (λ (bs : List (List ℕ)). bs ++ block.bytes ∷ []) so_far
+    ∙ ap (λ (b : List ℕ). map (table_block t) (range_with_len 0 n) ++ b ∷ []) bytes
+    ∙ sym (map-range_with_len_more (table_block t) 0 n n (omega arith))
+  where
+    pushed : (bs : List Block) → bytes_of_tables (bs ++ block ∷ []) ≡ bytes_of_tables bs ++ block.bytes ∷ []
+    pushed [] = refl
+    pushed (b ∷ bs) = ap (λ (xs : List (List ℕ)). b.bytes ∷ xs) (pushed bs)
