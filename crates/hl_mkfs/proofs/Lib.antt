@@ -1,5 +1,5 @@
 mod FirstTables
 mod RootNodes
 mod FirstCuts
+mod Zeros
 mod Rooting
-mod Founding

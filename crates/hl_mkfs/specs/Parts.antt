@@ -33,7 +33,7 @@ unfoldable pub root_bytes : List ℕ
 root_bytes = inode_bytes root_inode
 
 -- the first unit brings this block alone
-unfoldable pub root_unit : Brought
+abbrev pub root_unit : Brought
 root_unit = record {
   closes = true;
   records = record_of 1 Own ∷ [];

@@ -46,7 +46,6 @@ fn root_block() -> Block
 }
 
 /// The unit that brings the root's inode.
-#[tactic(auto, unfolding(crate::specs::Parts::root_unit))]
 fn root_unit(alloc: Global) -> Result<Unit, AllocError>
     ensures { IfOk result (λ unit. unit_of unit ≡ root_unit) }
 {
