@@ -3,3 +3,4 @@ mod RootNodes
 mod FirstCuts
 mod Zeros
 mod Rooting
+mod Founding

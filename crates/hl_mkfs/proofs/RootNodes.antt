@@ -130,7 +130,7 @@ module _ (g : Layout) (is : IsWithinLimits g) where
     of_root Pointers address lies = absurd (in_log-some g is 4294967295 (subst (InLog g) (sym lies.1) lies.0) refl)
     of_root (Content i) address lies = absurd (let lt = lies.0 in omega arith)
 
-    only_root : (ino : ℕ) (block : NodeBlock) (address : ℕ) → IsNodeBlock g image table ino block address → IsRootBlock ino block address
+    pub only_root : (ino : ℕ) (block : NodeBlock) (address : ℕ) → IsNodeBlock g image table ino block address → IsRootBlock ino block address
     only_root ino block address at = ⊎_elim
         (λ one.
         let entry : slice_index table.inodes ino ≡ root_address g = ap (λ (n : ℕ). slice_index table.inodes n) one ∙ entry_root g is.inode_count.0 in
