@@ -5,7 +5,8 @@ use Rattle.std.specs.Prelude.{Contains, Option, Some, None, slice_index}
 use Rattle.std.proofs.lemmas.Bool.{cases_eq}
 use Rattle.std.proofs.lemmas.List.{get_or_past}
 use Rattle.std.proofs.lemmas.List.FromFn.{length-map-range_with_len}
-use Rattle.hl_media.specs.History.{Image, PendingWrite, MachineState, IsUntouched}
+use Rattle.hl_media.specs.History.{Image, PendingWrite, MachineState, History, IsUntouched, state_now}
+use Rattle.hl_media.specs.Moments.{Ends, Now, Runs}
 use Rattle.hl_addr.specs.Layout.{Layout, IsWithinLimits, table_blocks}
 use Rattle.hl_addr.proofs.SegmentLemmas.{is_in}
 use Rattle.hl_bytes.specs.Fields.{zeros}
@@ -17,7 +18,10 @@ use Rattle.hl_log.specs.Free.{IsFree, Once}
 use Rattle.hl_log.specs.Checkpoints.{Checkpoints, FreesLess, Given, HasCheckpointed, HasNew, IsReady, KeepsRest, given_by, restarted_at}
 use Rattle.hl_log.proofs.Addresses.{addresses_free, addresses_once}
 use Rattle.hl_log.proofs.CutPlaces.{once_at}
+use Rattle.hl_log.specs.Cut.{HasClean}
+use Rattle.hl_log.specs.Rest.{IsSynced}
 use Rattle.hl_log.proofs.Sites.{large_segments}
+use Rattle.hl_log.proofs.Wraps.{runs_map}
 use Rattle.hl_tables.specs.TableBlocks.{table_block}
 use Rattle.hl_tables.specs.Values.{TableValues}
 use Rattle.hl_tseg.specs.SlotTable.{slot_at}
@@ -37,11 +41,11 @@ use Rattle.hl_nodes.specs.Sound.{AreSlots, AwayOnce, IsSound, IsUsed}
 use Rattle.hl_nodes.proofs.CheckpointLaws.{item_in, new_has}
 use Rattle.hl_nodes.proofs.ListingLaws.{first_holds}
 use Rattle.hl_mkfs.specs.Parts.{before_first, first_tables, root_address, root_bytes, root_end}
-use Rattle.hl_mkfs.specs.Stages.{IsFounded, IsRooted, StandsBehind, first_contents, rooted_position}
+use Rattle.hl_mkfs.specs.Stages.{IsFounded, IsRooted, Leads, LeavesNoLabel, StandsBehind, first_contents, rooted_position}
 use Rattle.hl_mkfs.specs.Stops.{StopLeaves}
 use Rattle.hl_mkfs.proofs.FirstTables.{entry_none, first_are_tables, first_used, no_staged, slot_free}
 use Rattle.hl_mkfs.proofs.RootNodes.{IsRootBlock, get_none, get_root, only_root, root_in_log, root_node, root_nodes}
-use Rattle.hl_mkfs.proofs.FirstCuts.{none_clean, root_end_place, tables_numbered}
+use Rattle.hl_mkfs.proofs.FirstCuts.{none_clean, root_end_place, tables_clean, tables_numbered}
 use Rattle.hl_mkfs.proofs.Rooting.{low_not_free}
 use Rattle.hl_mkfs.proofs.Zeros.{no_record}
 
@@ -229,3 +233,31 @@ module _ (g : Layout) (is : IsWithinLimits g) (first : MachineState) (rooted : I
           new = new;
           stands = stands s.content x.2 new x.0;
         }
+
+-- the clauses of the call that writes it
+module _ (g : Layout) (is : IsWithinLimits g) (before now : Option History) (at : Position) (rec next : Record) (blocks_of : List (List ℕ))
+    (at_is : at ≡ rooted_position) (rec_is : rec ≡ before_first g) (next_is : next ≡ before_first g) (blocks_are : blocks_of ≡ contents_of_tables g (first_tables g)) where
+  given_is : given_by rec.number next ≡ given_by 0 (before_first g)
+  given_is = ap (λ (r : Record). given_by r.number next) rec_is ∙ ap (given_by 0) next_is
+
+  pub tables_size : length blocks_of ≡ table_blocks g
+  tables_size = ap (λ (l : List (List ℕ)). length l) blocks_are ∙ length-map-range_with_len (table_block (first_tables g)) 0 (table_blocks g)
+
+  pub tables_enough : HasClean g at.head [] (length blocks_of) 0
+  tables_enough = subst (λ (p : Position). HasClean g p.head [] (length blocks_of) 0) (sym at_is) (subst (λ (n : ℕ). HasClean g root_end [] n 0) (sym tables_size) (tables_clean g is))
+
+  pub tables_runs : (blocks : ℕ) → Runs before now (Checkpoints g at [] (given_by rec.number next) blocks_of) → Runs before now (LeavesNoLabel (IsRooted g) blocks g)
+  tables_runs blocks run = runs_map before now (Checkpoints g at [] (given_by rec.number next) blocks_of) (LeavesNoLabel (IsRooted g) blocks g) run
+      (λ first s writes rooted. tables_no_label g is first rooted blocks s
+      (subst (λ (l : List (List ℕ)). Checkpoints g rooted_position [] (given_by 0 (before_first g)) l first s) blocks_are
+      (subst (λ (d : Given). Checkpoints g rooted_position [] d blocks_of first s) given_is
+      (subst (λ (p : Position). Checkpoints g p [] (given_by rec.number next) blocks_of first s) at_is writes))))
+
+  pub tables_end : (q : Position) (left : List ℕ) (new : Record) → Ends before now (HasCheckpointed g at [] (given_by rec.number next) blocks_of q left new) → Now now IsSynced → Ends before now (Leads (IsRooted g) (IsFounded g))
+  tables_end q left new done synced h e h' e' rooted =
+      let a = state_now h in
+      let s = state_now h' in
+      is_founded g is a rooted s (synced h' e') q left new
+      (subst (λ (l : List (List ℕ)). HasCheckpointed g rooted_position [] (given_by 0 (before_first g)) l q left new a s) blocks_are
+      (subst (λ (d : Given). HasCheckpointed g rooted_position [] d blocks_of q left new a s) given_is
+      (subst (λ (p : Position). HasCheckpointed g p [] (given_by rec.number next) blocks_of q left new a s) at_is (done h e h' e'))))
