@@ -4,3 +4,4 @@ mod FirstCuts
 mod Zeros
 mod Rooting
 mod Founding
+mod Joining

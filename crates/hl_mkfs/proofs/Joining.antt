@@ -1,0 +1,36 @@
+-- One stage after another.
+use Rattle.std.proofs.Common.{◌≡◌, ℕ, Option, Result, Ok, Err, subst}
+use Rattle.std.specs.Prelude.{OnOk}
+use Rattle.hl_media.specs.History.{History, MachineState}
+use Rattle.hl_media.specs.Moments.{Ends, Runs}
+use Rattle.hl_media.proofs.Runs.{ends_then, goes_on}
+use Rattle.hl_addr.specs.Layout.{Layout}
+use Rattle.hl_bytes.specs.Fields.{zeros}
+use Rattle.hl_mkfs.specs.Stages.{IsBlank, IsFounded, IsRooted, Leads, LeavesNoLabel}
+use Rattle.hl_mkfs.specs.Stops.{StopLeaves}
+
+module _ (A B : MachineState → Type 0) (before mid now : Option History) where
+  -- from the first stage to the last
+  pub leads_then : (C : MachineState → Type 0) (P : MachineState → MachineState → Type 0) → Runs mid now P → Ends before mid (Leads A B) → Ends mid now (Leads B C) → Ends before now (Leads A C)
+  leads_then C P run first more = ends_then before mid now run.calls run.is (Leads A B) (Leads B C) (Leads A C) first more (λ a m s lead next here. next (lead here))
+
+  pub on_ok_leads : {E : Type 0} (C : MachineState → Type 0) (P : MachineState → MachineState → Type 0) (r : Result (Unit {0}) E) → Runs mid now P → Ends before mid (Leads A B)
+      → OnOk r (Ends mid now (Leads B C)) → OnOk r (Ends before now (Leads A C))
+  on_ok_leads C P (Ok u) run first more = leads_then C P run first more
+  on_ok_leads C P (Err e) run first more = tt
+
+  -- what a stop leaves in two stages
+  pub stops_then : (Q : MachineState → Type 0) → Runs before mid (λ first s. A first → Q s) → Ends before mid (Leads A B) → Runs mid now (λ first s. B first → Q s) → Runs before now (λ first s. A first → Q s)
+  stops_then Q first ends more = goes_on before mid now (λ first s. A first → Q s) (λ first s. B first → Q s) (Leads A B) first ends more (λ a m s lead next here. next (lead here))
+
+-- the first unit, and then the first checkpoint, of a log whose site stays
+module _ (g other : Layout) (same : other ≡ g) (before mid now : Option History) (rooted : Ends before mid (Leads (IsBlank g) (IsRooted g))) where
+  pub fill_founds : {E : Type 0} (P : MachineState → MachineState → Type 0) (r : Result (Unit {0}) E) → Runs mid now P
+      → OnOk r (Ends mid now (Leads (IsRooted other) (IsFounded other))) → OnOk r (Ends before now (Leads (IsBlank g) (IsFounded g)))
+  fill_founds P r run more = on_ok_leads (IsBlank g) (IsRooted g) before mid now (IsFounded g) P r run rooted
+      (subst (λ (x : Layout). OnOk r (Ends mid now (Leads (IsRooted x) (IsFounded x)))) same more)
+
+  pub fill_stops : (blocks many : ℕ) → many ≡ blocks → Runs before mid (LeavesNoLabel (IsBlank g) blocks g) → Runs mid now (LeavesNoLabel (IsRooted other) many other)
+      → Runs before now (LeavesNoLabel (IsBlank g) blocks g)
+  fill_stops blocks many count first more = stops_then (IsBlank g) (IsRooted g) before mid now (StopLeaves blocks g (λ image. image 0 ≡ zeros 4096)) first rooted
+      (subst (λ (n : ℕ). Runs mid now (LeavesNoLabel (IsRooted g) n g)) count (subst (λ (x : Layout). Runs mid now (LeavesNoLabel (IsRooted x) many x)) same more))
