@@ -34,3 +34,13 @@ module _ (g other : Layout) (same : other ≡ g) (before mid now : Option Histor
       → Runs before now (LeavesNoLabel (IsBlank g) blocks g)
   fill_stops blocks many count first more = stops_then (IsBlank g) (IsRooted g) before mid now (StopLeaves blocks g (λ image. image 0 ≡ zeros 4096)) first rooted
       (subst (λ (n : ℕ). Runs mid now (LeavesNoLabel (IsRooted g) n g)) count (subst (λ (x : Layout). Runs mid now (LeavesNoLabel (IsRooted x) many x)) same more))
+
+-- the same of a log that was opened for the site
+pub opened_founds : (g other : Layout) → other ≡ g → (before mid now : Option History) → mid ≡ before → Ends mid now (Leads (IsBlank other) (IsFounded other)) → Ends before now (Leads (IsBlank g) (IsFounded g))
+opened_founds g other same before mid now here ends = subst (λ (x : Layout). Ends before now (Leads (IsBlank x) (IsFounded x))) same (subst (λ (told : Option History). Ends told now (Leads (IsBlank other) (IsFounded other))) here ends)
+
+pub opened_stops : (g other : Layout) → other ≡ g → (before mid now : Option History) → mid ≡ before → (blocks many : ℕ) → many ≡ blocks → Runs mid now (LeavesNoLabel (IsBlank other) many other) → Runs before now (LeavesNoLabel (IsBlank g) blocks g)
+opened_stops g other same before mid now here blocks many count run =
+    subst (λ (n : ℕ). Runs before now (LeavesNoLabel (IsBlank g) n g)) count
+    (subst (λ (x : Layout). Runs before now (LeavesNoLabel (IsBlank x) many x)) same
+    (subst (λ (told : Option History). Runs told now (LeavesNoLabel (IsBlank other) many other)) here run))

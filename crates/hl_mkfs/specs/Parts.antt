@@ -1,6 +1,6 @@
 -- What a new site is made of.
 use Rattle.std.specs.Prelude.{◌≡◌, ℕ, ◌+◌, true, false, List, [], ◌∷◌, replicate, slice_set}
-use Rattle.hl_addr.specs.Layout.{Layout}
+use Rattle.hl_addr.specs.Layout.{Layout, IsWithinLimits}
 use Rattle.hl_inode.specs.Inodes.{inode_bytes}
 use Rattle.hl_inode.specs.declared.inode.Inode.{Inode}
 use Rattle.hl_inode.specs.declared.inode.Kind.TheVariants.{Dir}
@@ -74,8 +74,9 @@ before_first g = record {
   tables = [];
 }
 
--- what memory was taken for
+-- what memory was taken for, on a site within the limits
 pub record AreSupplies (g : Layout) (supplies : Supplies) : Type 0 where
+  pub limits : IsWithinLimits g
   pub start : supplies.start ≡ before_first g
   pub next : supplies.next ≡ before_first g
   pub unit : unit_of supplies.unit ≡ root_unit

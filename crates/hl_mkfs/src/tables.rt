@@ -1,7 +1,7 @@
 //! The first tables of a site, as blocks.
 
 ghost use Rattle.std.specs.Prelude.{◌≡◌, ◌<◌, IfOk};
-ghost use Rattle.hl_addr.specs.Layout.{table_blocks};
+ghost use Rattle.hl_addr.specs.Layout.{IsWithinLimits, table_blocks};
 ghost use Rattle.hl_log.specs.Loads.{bytes_of_tables};
 ghost use Rattle.hl_nodes.specs.Checkpoints.{contents_of_tables};
 ghost use Rattle.hl_tables.specs.TableBlocks.{table_block};
@@ -15,7 +15,8 @@ use std::alloc::{AllocError, Global};
 /// The first tables: the root's inode lies in block 1 of the log's first segment, which is used.
 #[tactic(auto, unfolding(crate::specs::Parts::first_tables))]
 fn first_tables(alloc: Global, geometry: &Geometry) -> Result<Tables, AllocError>
-    ensures { IfOk result (λ tables. tables ≡ first_tables geometry.now) }
+    ensures value { IfOk result (λ tables. tables ≡ first_tables geometry.now) }
+    ensures limits { IfOk result (λ tables. IsWithinLimits geometry.now) }
 {
     let mut tables = Tables::new(alloc, geometry)?;
     tables.set_inode(1, geometry.k + 1);
@@ -39,9 +40,10 @@ pub(crate) fn first_table_blocks(
     alloc: Global,
     geometry: &Geometry,
 ) -> Result<Vec<Block>, AllocError>
-    ensures { let tables = first_tables geometry.now in
+    ensures blocks { let tables = first_tables geometry.now in
         IfOk result
         (λ blocks. bytes_of_tables blocks.items ≡ contents_of_tables geometry.now tables) }
+    ensures limits { IfOk result (λ blocks. IsWithinLimits geometry.now) }
 {
     let tables = first_tables(alloc, geometry)?;
     let mut blocks = Vec::new(alloc);
