@@ -1,9 +1,9 @@
 -- One stage after another.
-use Rattle.std.proofs.Common.{◌≡◌, ℕ, Option, Result, Ok, Err, subst}
+use Rattle.std.proofs.Common.{◌≡◌, ℕ, List, Option, Result, Ok, Err, sym, ◌∙◌, subst}
 use Rattle.std.specs.Prelude.{OnOk}
-use Rattle.hl_media.specs.History.{History, MachineState}
+use Rattle.hl_media.specs.History.{History, IsUntouched, MachineState, PendingWrite, state_now}
 use Rattle.hl_media.specs.Moments.{Ends, Runs}
-use Rattle.hl_media.proofs.Runs.{ends_then, goes_on}
+use Rattle.hl_media.proofs.Runs.{ends_then, goes_on, starts}
 use Rattle.hl_addr.specs.Layout.{Layout}
 use Rattle.hl_bytes.specs.Fields.{zeros}
 use Rattle.hl_mkfs.specs.Stages.{IsBlank, IsFounded, IsRooted, Leads, LeavesNoLabel}
@@ -44,3 +44,11 @@ opened_stops g other same before mid now here blocks many count run =
     subst (λ (n : ℕ). Runs before now (LeavesNoLabel (IsBlank g) n g)) count
     (subst (λ (x : Layout). Runs before now (LeavesNoLabel (IsBlank x) many x)) same
     (subst (λ (told : Option History). Runs told now (LeavesNoLabel (IsBlank other) many other)) here run))
+
+-- where nothing is done the first block stays
+pub blank_stops : (g : Layout) (blocks : ℕ) (before now : Option History) → now ≡ before → Runs before now (LeavesNoLabel (IsBlank g) blocks g)
+blank_stops g blocks before now same = subst (λ (told : Option History). Runs before told (LeavesNoLabel (IsBlank g) blocks g)) (sym same)
+    (starts before (LeavesNoLabel (IsBlank g) blocks g) (λ h e blank. stays (state_now h) blank))
+  where
+    stays : (s : MachineState) → IsBlank g s → StopLeaves blocks g (λ image. image 0 ≡ zeros 4096) s
+    stays s blank image may chance label = may 0 (subst (λ (ws : List PendingWrite). IsUntouched ws 0) (sym blank.bare.synced) tt) ∙ blank.bare.cleared.label
