@@ -5,3 +5,5 @@ mod Zeros
 mod Rooting
 mod Founding
 mod Joining
+mod Clearing
+mod Labelling

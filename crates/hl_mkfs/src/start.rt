@@ -1,6 +1,9 @@
 //! The disk's first blocks: zeros before there is a log, and the label once there is.
 
 ghost use Rattle.std.specs.Prelude.{◌≡◌, ◌≤◌, OnOk};
+ghost use Rattle.hl_addr.specs.Layout.{IsWithinLimits};
+ghost use Rattle.hl_super.specs.Labels.{IsLabel};
+ghost use Rattle.hl_image.specs.Newest.{label_of};
 ghost use Rattle.hl_media.specs.Causes.{HasCause};
 ghost use Rattle.hl_media.specs.Moments.{Ends, Runs};
 ghost use Rattle.hl_log.specs.Logs.{site_blocks};
@@ -13,6 +16,27 @@ use hl_addr::Geometry;
 use hl_bytes::BLOCK;
 use hl_media::{Failed, Machine, write_synced};
 use hl_super::{Label, encode_label};
+
+/// The first block of the log.
+fn first_block(geometry: &Geometry) -> u32
+    ensures value { result ≡ geometry.now.k }
+    ensures limits { IsWithinLimits geometry.now }
+{
+    geometry.k
+}
+
+/// The label of a site.
+fn label_of(geometry: &Geometry) -> Label
+    ensures value { result ≡ label_of geometry.now }
+    ensures limits { IsLabel result }
+{
+    Label {
+        k: geometry.k,
+        log: geometry.log,
+        lines: geometry.lines,
+        inodes: geometry.inodes,
+    }
+}
 
 /// Zeros in the first block of the log.
 pub(crate) fn clear_log<M: Machine>(machine: &mut M, geometry: &Geometry) -> Result<(), Failed>
@@ -28,7 +52,7 @@ pub(crate) fn clear_log<M: Machine>(machine: &mut M, geometry: &Geometry) -> Res
         (M.write_faults machine.new) result }
     ensures say_faults { M.say_faults machine.new ≡ M.say_faults machine.old }
 {
-    write_synced(machine, geometry.k, &[0; BLOCK])
+    write_synced(machine, first_block(geometry), &[0; BLOCK])
 }
 
 /// The label, with which the site is made.
@@ -47,13 +71,7 @@ pub(crate) fn put_label<M: Machine>(machine: &mut M, geometry: &Geometry) -> Res
         (M.write_faults machine.new) result }
     ensures say_faults { M.say_faults machine.new ≡ M.say_faults machine.old }
 {
-    let label = Label {
-        k: geometry.k,
-        log: geometry.log,
-        lines: geometry.lines,
-        inodes: geometry.inodes,
-    };
     let mut block = [0; BLOCK];
-    encode_label(&label, &mut block);
+    encode_label(&label_of(geometry), &mut block);
     write_synced(machine, 0, &block)
 }
