@@ -1,13 +1,15 @@
 -- One stage after another.
-use Rattle.std.proofs.Common.{◌≡◌, ℕ, List, Option, Result, Ok, Err, sym, ◌∙◌, subst}
+use Rattle.std.proofs.Common.{◌≡◌, inl, ℕ, List, Option, Result, Ok, Err, sym, ◌∙◌, subst}
 use Rattle.std.specs.Prelude.{OnOk}
 use Rattle.hl_media.specs.History.{History, IsUntouched, MachineState, PendingWrite, state_now}
 use Rattle.hl_media.specs.Moments.{Ends, Runs}
 use Rattle.hl_media.proofs.Runs.{ends_then, goes_on, starts}
 use Rattle.hl_addr.specs.Layout.{Layout}
 use Rattle.hl_bytes.specs.Fields.{zeros}
-use Rattle.hl_mkfs.specs.Stages.{IsBlank, IsFounded, IsRooted, Leads, LeavesNoLabel}
+use Rattle.hl_mkfs.specs.Stages.{IsBlank, IsFounded, IsRooted, Leads, LeavesNoLabel, LeavesNoneOrNew}
 use Rattle.hl_mkfs.specs.Stops.{StopLeaves}
+use Rattle.hl_mkfs.proofs.Zeros.{no_label}
+use Rattle.hl_log.proofs.Wraps.{runs_map}
 
 module _ (A B : MachineState → Type 0) (before mid now : Option History) where
   -- from the first stage to the last
@@ -52,3 +54,8 @@ blank_stops g blocks before now same = subst (λ (told : Option History). Runs b
   where
     stays : (s : MachineState) → IsBlank g s → StopLeaves blocks g (λ image. image 0 ≡ zeros 4096) s
     stays s blank image may chance label = may 0 (subst (λ (ws : List PendingWrite). IsUntouched ws 0) (sym blank.bare.synced) tt) ∙ blank.bare.cleared.label
+
+-- where there is no label there is none or the new site
+pub none_weaker : (Stage : MachineState → Type 0) (blocks : ℕ) (g : Layout) (before now : Option History) → Runs before now (LeavesNoLabel Stage blocks g) → Runs before now (LeavesNoneOrNew Stage blocks g)
+none_weaker Stage blocks g before now run = runs_map before now (LeavesNoLabel Stage blocks g) (LeavesNoneOrNew Stage blocks g) run
+    (λ first s leaves here image may chance label. inl (no_label blocks image (leaves here image may chance label)))

@@ -17,6 +17,7 @@ use Rattle.hl_nodes.specs.Sound.{IsSound}
 use Rattle.hl_nodes.specs.Live.{record_of}
 use Rattle.hl_nodes.specs.Live.NodeBlock.{Own}
 use Rattle.hl_mkfs.specs.Parts.{first_tables, log_start, root_address, root_bytes, root_end}
+use Rattle.hl_mkfs.specs.Sites.{IsNoneOrNew}
 use Rattle.hl_mkfs.specs.Stops.{StopLeaves}
 
 -- the blocks of the label and of the records are zeros
@@ -74,6 +75,10 @@ pub record IsFounded (g : Layout) (s : MachineState) : Type 0 where
 -- from a stage on a stop leaves zeros in the label's block
 abbrev pub LeavesNoLabel : (MachineState → Type 0) → ℕ → Layout → MachineState → MachineState → Type 0
 LeavesNoLabel Stage blocks g first s = Stage first → StopLeaves blocks g (λ image. image 0 ≡ zeros 4096) s
+
+-- and no label or the new site
+abbrev pub LeavesNoneOrNew : (MachineState → Type 0) → ℕ → Layout → MachineState → MachineState → Type 0
+LeavesNoneOrNew Stage blocks g first s = Stage first → StopLeaves blocks g (IsNoneOrNew blocks g) s
 
 -- from one stage to the next
 abbrev pub Leads : (MachineState → Type 0) → (MachineState → Type 0) → MachineState → MachineState → Type 0

@@ -6,9 +6,8 @@ ghost use Rattle.hl_log.specs.Logs.{site_blocks};
 ghost use Rattle.hl_log.specs.Rest.{SaysNothing};
 ghost use Rattle.hl_mkfs.specs.Answers.{HasCause, machine_of};
 ghost use Rattle.hl_mkfs.specs.Parts.{AreSupplies};
-ghost use Rattle.hl_mkfs.specs.Sites.{IsNoneOrNew};
-ghost use Rattle.hl_mkfs.specs.Stages.{IsBare, Leads};
-ghost use Rattle.hl_mkfs.specs.Stops.{IsMade, Makes, StopLeaves};
+ghost use Rattle.hl_mkfs.specs.Stages.{IsBare, IsFounded, Leads, LeavesNoneOrNew};
+ghost use Rattle.hl_mkfs.specs.Stops.{IsMade, Makes};
 
 use crate::first_log::found;
 use crate::start::{clear_log, put_label};
@@ -29,6 +28,16 @@ pub enum MkfsError {
 
 /// Puts the label, with which the site is made.
 fn finish<M: Machine>(machine: M, geometry: &Geometry) -> Result<M, (MkfsError, M)>
+    requires { site_blocks geometry.now ≤ M.blocks machine }
+    ensures made { IfOk result (λ m. Ends (M.history machine) (M.history m)
+        (Leads (IsFounded geometry.now) (IsMade (M.blocks machine) geometry.now))) }
+    ensures crash { Runs (M.history machine) (M.history (machine_of result))
+        (LeavesNoneOrNew (IsFounded geometry.now) (M.blocks machine) geometry.now) }
+    ensures silent { Runs (M.history machine) (M.history (machine_of result)) SaysNothing }
+    ensures blocks { M.blocks (machine_of result) ≡ M.blocks machine }
+    ensures faults { HasCause M.faults machine result }
+    ensures write_faults { HasCause M.write_faults machine result }
+    ensures say_faults { M.say_faults (machine_of result) ≡ M.say_faults machine }
 {
     let mut machine = machine;
     match put_label(&mut machine, geometry) {
@@ -44,6 +53,17 @@ fn build<M: Machine>(
     geometry: &Geometry,
     supplies: Supplies,
 ) -> Result<M, (MkfsError, M)>
+    requires room { site_blocks geometry.now ≤ M.blocks machine }
+    requires supplies { AreSupplies geometry.now supplies }
+    ensures made { IfOk result (λ m. Ends (M.history machine) (M.history m)
+        (Leads IsBare (IsMade (M.blocks machine) geometry.now))) }
+    ensures crash { Runs (M.history machine) (M.history (machine_of result))
+        (LeavesNoneOrNew IsBare (M.blocks machine) geometry.now) }
+    ensures silent { Runs (M.history machine) (M.history (machine_of result)) SaysNothing }
+    ensures blocks { M.blocks (machine_of result) ≡ M.blocks machine }
+    ensures faults { HasCause M.faults machine result }
+    ensures write_faults { HasCause M.write_faults machine result }
+    ensures say_faults { M.say_faults (machine_of result) ≡ M.say_faults machine }
 {
     let mut machine = machine;
     if let Err(Failed) = clear_log(&mut machine, geometry) {
@@ -62,6 +82,14 @@ pub fn mkfs<M: Machine>(
     geometry: &Geometry,
 ) -> Result<M, (MkfsError, M)>
     requires { site_blocks geometry.now ≤ M.blocks machine }
+    ensures made { IfOk result (λ m. Now (M.history m) (IsMade (M.blocks m) geometry.now)) }
+    ensures moments { Makes (M.blocks machine) geometry.now (M.history machine)
+        (M.history (machine_of result)) }
+    ensures silent { Runs (M.history machine) (M.history (machine_of result)) SaysNothing }
+    ensures blocks { M.blocks (machine_of result) ≡ M.blocks machine }
+    ensures faults { HasCause M.faults machine result }
+    ensures write_faults { HasCause M.write_faults machine result }
+    ensures say_faults { M.say_faults (machine_of result) ≡ M.say_faults machine }
 {
     let Ok(supplies) = take_supplies(alloc, geometry) else {
         return Err((MkfsError::Memory, machine));

@@ -8,9 +8,8 @@ ghost use Rattle.hl_media.specs.Causes.{HasCause};
 ghost use Rattle.hl_media.specs.Moments.{Ends, Runs};
 ghost use Rattle.hl_log.specs.Logs.{site_blocks};
 ghost use Rattle.hl_log.specs.Rest.{SaysNothing};
-ghost use Rattle.hl_mkfs.specs.Sites.{IsNoneOrNew};
-ghost use Rattle.hl_mkfs.specs.Stages.{IsBare, IsBlank, IsFounded, Leads, LeavesNoLabel};
-ghost use Rattle.hl_mkfs.specs.Stops.{IsMade, StopLeaves};
+ghost use Rattle.hl_mkfs.specs.Stages.{IsBare, IsBlank, IsFounded, Leads, LeavesNoLabel, LeavesNoneOrNew};
+ghost use Rattle.hl_mkfs.specs.Stops.{IsMade};
 
 use hl_addr::Geometry;
 use hl_bytes::BLOCK;
@@ -60,10 +59,8 @@ pub(crate) fn put_label<M: Machine>(machine: &mut M, geometry: &Geometry) -> Res
     requires { site_blocks geometry.now ≤ M.blocks machine.old }
     ensures made { OnOk result (Ends (M.history machine.old) (M.history machine.new)
         (Leads (IsFounded geometry.now) (IsMade (M.blocks machine.old) geometry.now))) }
-    ensures crash { let blocks = M.blocks machine.old in
-        Runs (M.history machine.old) (M.history machine.new)
-        (λ first s. IsFounded geometry.now first
-        → StopLeaves blocks geometry.now (IsNoneOrNew blocks geometry.now) s) }
+    ensures crash { Runs (M.history machine.old) (M.history machine.new)
+        (LeavesNoneOrNew (IsFounded geometry.now) (M.blocks machine.old) geometry.now) }
     ensures silent { Runs (M.history machine.old) (M.history machine.new) SaysNothing }
     ensures blocks { M.blocks machine.new ≡ M.blocks machine.old }
     ensures faults { HasCause (M.faults machine.old) (M.faults machine.new) result }
