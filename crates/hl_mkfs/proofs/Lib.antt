@@ -7,3 +7,4 @@ mod Founding
 mod Joining
 mod Clearing
 mod Labelling
+mod Building
