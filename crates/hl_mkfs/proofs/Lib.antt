@@ -8,3 +8,4 @@ mod Joining
 mod Clearing
 mod Labelling
 mod Building
+mod Moments
