@@ -1,0 +1,11 @@
+mod FirstTables
+mod RootNodes
+mod FirstCuts
+mod Zeros
+mod Rooting
+mod Founding
+mod Joining
+mod Clearing
+mod Labelling
+mod Building
+mod Moments
