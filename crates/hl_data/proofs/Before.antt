@@ -102,9 +102,9 @@ module _ {M : Type 0} (history : M → Option History) (old mid : StoreValue M) 
 module _ {M : Type 0} where
   pub tables_both : (a b c : StoreValue M) → KeepsTables a b → KeepsTables b c → KeepsTables a c
   tables_both a b c first second = second ∙ ap (λ (v : StoreValue M). record v {
-      log = with_machine v.log c.log.machine;
-      overlay = c.overlay;
-      uses = c.uses;
-      tally = c.tally;
-      lines = c.lines;
-    }) first
+    log = with_machine v.log c.log.machine;
+    overlay = c.overlay;
+    uses = c.uses;
+    tally = c.tally;
+    lines = c.lines;
+  }) first

@@ -89,22 +89,25 @@ module _ {M : Type 0} (history : M → Option History) (faults : M → ℕ) (old
         ∙ ap (λ (g : Layout). exceeds (quota g) (nodes_charge numbered) (nodes_charge (left_by work number shelf numbered r.file))) (sym (layout_kept history old mid reads))
 
     pub call_made : (answer : FileStep) → DoesWork history faults mid new number work answer → MakesCall history faults old new now call answer
-    call_made (step.Done reply) done = (tables_both old mid new (keeps_tables history old mid run reads) done.0, λ h told c lies shelf numbered shows knows placed.
-        let r = rules h told c lies shelf numbered shows knows placed in
-        let w = of_files_before history old mid reads run (λ c shelf numbered. (file : PlacedFile) → get numbered number ≡ Some (Leaf file) → IsWorkDone history mid new reply work number c shelf numbered file)
-            done.1 h told c lies shelf numbered shows knows placed r.file r.there in
-        record {
-          reply_is = w.reply_is ∙ sym (ap numbered_reply r.is);
-          within = over_is shelf numbered r ∙ w.within;
-          uses = subst (λ (d : NumberedDone PlacedFile). UsesLines old new (needed_by numbered call d)) (sym r.is)
-              (subst (UsesLines old new) (sym r.needs) (uses_before history old mid reads new (work.needs r.file) w.uses));
-          over = w.over;
-          known = subst (AreKnown new c) (sym (ap (numbered_left numbered) r.is)) w.known;
-        })
+    call_made (step.Done reply) done = (
+      tables_both old mid new (keeps_tables history old mid run reads) done.0,
+      λ h told c lies shelf numbered shows knows placed.
+          let r = rules h told c lies shelf numbered shows knows placed in
+          let w = of_files_before history old mid reads run (λ c shelf numbered. (file : PlacedFile) → get numbered number ≡ Some (Leaf file) → IsWorkDone history mid new reply work number c shelf numbered file)
+          done.1 h told c lies shelf numbered shows knows placed r.file r.there in
+          record {
+            reply_is = w.reply_is ∙ sym (ap numbered_reply r.is);
+            within = over_is shelf numbered r ∙ w.within;
+            uses = subst (λ (d : NumberedDone PlacedFile). UsesLines old new (needed_by numbered call d)) (sym r.is)
+                (subst (UsesLines old new) (sym r.needs) (uses_before history old mid reads new (work.needs r.file) w.uses));
+            over = w.over;
+            known = subst (AreKnown new c) (sym (ap (numbered_left numbered) r.is)) w.known;
+          },
+    )
     call_made (step.Needs tseg) needing = ends_needing history old new both (all needing.0) faults now call tseg (λ h told c lies shelf numbered shows knows placed.
         let r = rules h told c lies shelf numbered shows knows placed in
         let w = of_files_before history old mid reads run (λ c shelf numbered. (file : PlacedFile) → get numbered number ≡ Some (Leaf file) → IsWorkNeeding mid tseg work number shelf numbered file)
-            needing.1 h told c lies shelf numbered shows knows placed r.file r.there in
+        needing.1 h told c lies shelf numbered shows knows placed r.file r.there in
         record {
           taken = ap is_taken r.is;
           within = over_is shelf numbered r ∙ w.within;
@@ -113,7 +116,7 @@ module _ {M : Type 0} (history : M → Option History) (faults : M → ℕ) (old
     call_made step.NoSpace over = ends_without_space history old new both (all over.0) faults now call (λ h told c lies shelf numbered shows knows placed.
         let r = rules h told c lies shelf numbered shows knows placed in
         let w = of_files_before history old mid reads run (λ c shelf numbered. (file : PlacedFile) → get numbered number ≡ Some (Leaf file) → true ≡ is_over_by mid work number shelf numbered file)
-            over.1 h told c lies shelf numbered shows knows placed r.file r.there in
+        over.1 h told c lies shelf numbered shows knows placed r.file r.there in
         over_is shelf numbered r ∙ sym w)
     call_made step.DiskFault fault = ends_in_fault history old new both (all fault.0) faults now call (rose_since (faults old.log.machine) (faults mid.log.machine) (faults new.log.machine) most fault.1)
     call_made step.Memory reads_more = ends_in_want history old new both (all reads_more) faults now call
@@ -166,9 +169,10 @@ module _ {M : Type 0} (history : M → Option History) (old : StoreValue M) (now
     pub write_nothing : length bytes ≡ 0 → OfFiles history old (λ c shelf numbered.
         (done_by old shelf numbered now (calls.Write path at bytes) ≡ Ok (replies.Ok, numbered)) × (needed_by numbered (calls.Write path at bytes) (Ok (replies.Ok, numbered)) ≡ []))
     write_nothing none h told c lies shelf numbered shows knows placed =
-        let one = found h told c lies numbered knows in
-        (write_none (site_limits (layout old)) shelf numbered now path number one.0 one.1 at bytes short_is (ap (λ (n : ℕ). nat_eq n 0) none),
-         write_needed (site_limits (layout old)) shelf numbered now path number one.0 one.1 at bytes ∙ none_needed at bytes none one.0)
+        let one = found h told c lies numbered knows in (
+          write_none (site_limits (layout old)) shelf numbered now path number one.0 one.1 at bytes short_is (ap (λ (n : ℕ). nat_eq n 0) none),
+          write_needed (site_limits (layout old)) shelf numbered now path number one.0 one.1 at bytes ∙ none_needed at bytes none one.0,
+        )
 
     module _ (some : 0 < length bytes) where
       some_is : nat_eq (length bytes) 0 ≡ false

@@ -49,7 +49,7 @@ module _ (at most len : ℕ) where
       beyond : most < at → read_needs (min at most) len file ≡ read_needs at len file
       beyond past =
           let same : (i : ℕ) → meets (min at most) (min (min at most + min len 32768) file.size) i ≡ meets at (min (at + min len 32768) file.size) i =
-            λ i. meets-none (min at most) (min (min at most + min len 32768) file.size) i (omega arith) ∙ sym (meets-none at (min (at + min len 32768) file.size) i (omega arith)) in
+          λ i. meets-none (min at most) (min (min at most + min len 32768) file.size) i (omega arith) ∙ sym (meets-none at (min (at + min len 32768) file.size) i (omega arith)) in
           λ i. serials (λ k. same k i) file
 
   -- by the bytes of a file

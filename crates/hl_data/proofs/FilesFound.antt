@@ -43,14 +43,14 @@ module _ {M : Type 0} (history : M → Option History) (old : StoreValue M) (pat
       pub path_file : node.kind ≡ File → node.size ≤ 4243456 → IsFileAt history old path number
       path_file kind most h told c lies numbered tree =
           let m = of_tree_before history old mid reads run (λ c numbered. (file : PlacedFile) × (get numbered number ≡ Some (Leaf file)) × (node.size ≡ file.size))
-              (λ h told c lies numbered tree. (let m = file_found mid c numbered tree number (state_now h) node (found h told c lies) kind in (m.0, m.1, m.2)))
-              h told c lies numbered tree in
+          (λ h told c lies numbered tree. (let m = file_found mid c numbered tree number (state_now h) node (found h told c lies) kind in (m.0, m.1, m.2)))
+          h told c lies numbered tree in
           (m.0, file_is (site_limits (layout old)) numbered path short number (led h told c lies numbered tree) m.0 m.1, subst (λ (n : ℕ). n ≤ 4243456) m.2 most)
 
       -- or a directory's
       pub path_dir : node.kind ≡ Dir → OfTree history old (λ c numbered. IsNoFileAt (layout old) path numbered Eisdir)
       path_dir kind h told c lies numbered tree =
           let m = of_tree_before history old mid reads run (λ c numbered. (es : List Entry) × (get numbered number ≡ Some (Directory es)))
-              (λ h told c lies numbered tree. (let m = directory_found mid c numbered tree number (state_now h) node (found h told c lies) kind in (m.0, m.1)))
-              h told c lies numbered tree in
+          (λ h told c lies numbered tree. (let m = directory_found mid c numbered tree number (state_now h) node (found h told c lies) kind in (m.0, m.1)))
+          h told c lies numbered tree in
           file_dir (site_limits (layout old)) numbered path short number (led h told c lies numbered tree) m.0 m.1

@@ -31,11 +31,13 @@ module _ {M : Type 0} (v : StoreValue M) (c : Contents) (shelf : Shelf) (numbere
   pub leaf_node : (used : ℕ) × HasFile v c shelf number (used_at used file)
   leaf_node =
       let one = node_of v c numbered tree number (Leaf file) there in
-      let used : ℕ = one.0.content.used in
-      (used, record {
-        has = one.1 ∙ ap (λ (n : FlatNode). Some (with_use used n)) one.2;
-        placed = placed_at used;
-      })
+      let used : ℕ = one.0.content.used in (
+        used,
+        record {
+          has = one.1 ∙ ap (λ (n : FlatNode). Some (with_use used n)) one.2;
+          placed = placed_at used;
+        },
+      )
 
 module _ {M : Type 0} (history : M → Option History) (v : StoreValue M) (number : ℕ) where
   -- WHAT IS FOUND OF A FILE is so of the file of the tree, where its last use doesn't matter

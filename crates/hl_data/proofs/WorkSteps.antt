@@ -49,12 +49,12 @@ module _ {M : Type 0} (v : StoreValue M) where
 module _ {M : Type 0} (b d : StoreValue M) (lines : Lines) (is : d ≡ record b { lines = lines }) where
   tables_lines : KeepsTables b d
   tables_lines = subst (λ (v : StoreValue M). v ≡ record b {
-      log = with_machine b.log v.log.machine;
-      overlay = v.overlay;
-      uses = v.uses;
-      tally = v.tally;
-      lines = v.lines;
-    }) (sym is) refl
+    log = with_machine b.log v.log.machine;
+    overlay = v.overlay;
+    uses = v.uses;
+    tally = v.tally;
+    lines = v.lines;
+  }) (sym is) refl
 
   machine_lines : d.log.machine ≡ b.log.machine
   machine_lines = ap (λ (v : StoreValue M). v.log.machine) is
@@ -80,12 +80,12 @@ module _ {M : Type 0} (b d : StoreValue M) (lines : Lines) (is : d ≡ record b 
 module _ {M : Type 0} (d e : StoreValue M) (number now : ℕ) (touches : Touches d e number now) where
   tables_touched : KeepsTables d e
   tables_touched = subst (λ (v : StoreValue M). v ≡ record d {
-      log = with_machine d.log v.log.machine;
-      overlay = v.overlay;
-      uses = v.uses;
-      tally = v.tally;
-      lines = v.lines;
-    }) (sym touches.same) refl
+    log = with_machine d.log v.log.machine;
+    overlay = v.overlay;
+    uses = v.uses;
+    tally = v.tally;
+    lines = v.lines;
+  }) (sym touches.same) refl
 
   machine_touched : e.log.machine ≡ d.log.machine
   machine_touched = ap (λ (v : StoreValue M). v.log.machine) touches.same
@@ -143,13 +143,16 @@ module _ {M : Type 0} {history : M → Option History} {blocks faults write_faul
       → OfLeaf history old number (λ c shelf numbered file. AreAtHand old tsegs ((reading now at len).needs file))
       → OfLeaf history old number (λ c shelf numbered file. reply ≡ (reading now at len).reply shelf file)
       → DoesWork history faults old e number (reading now at len) (step.Done reply)
-  read_done at len reply within hands is = (used_tables, λ h told c lies shelf numbered shows knows placed file there. record {
-    reply_is = is h told c lies shelf numbered shows knows placed file there;
-    within = sym (within h told c lies shelf numbered shows knows placed file there);
-    uses = record { tsegs = tsegs; at_hand = hands h told c lies shelf numbered shows knows placed file there; lines = used_lines };
-    over = used_over h told c lies;
-    known = used_known h told c lies numbered knows.known file there;
-  })
+  read_done at len reply within hands is = (
+    used_tables,
+    λ h told c lies shelf numbered shows knows placed file there. record {
+      reply_is = is h told c lies shelf numbered shows knows placed file there;
+      within = sym (within h told c lies shelf numbered shows knows placed file there);
+      uses = record { tsegs = tsegs; at_hand = hands h told c lies shelf numbered shows knows placed file there; lines = used_lines };
+      over = used_over h told c lies;
+      known = used_known h told c lies numbered knows.known file there;
+    },
+  )
 
 -- A CHANGE: reads, the change, the lines that were used, and the number that was
 module _ {M : Type 0} {history : M → Option History} {blocks faults write_faults say_faults : M → ℕ} {old a : StoreValue M} (behind : OnlyRead history blocks faults write_faults say_faults old a)
@@ -174,12 +177,12 @@ module _ {M : Type 0} {history : M → Option History} {blocks faults write_faul
 
   tables_beside : KeepsTables a b
   tables_beside = subst (λ (v : StoreValue M). v ≡ record a {
-      log = with_machine a.log v.log.machine;
-      overlay = v.overlay;
-      uses = v.uses;
-      tally = v.tally;
-      lines = v.lines;
-    }) (sym beside.same) refl
+    log = with_machine a.log v.log.machine;
+    overlay = v.overlay;
+    uses = v.uses;
+    tally = v.tally;
+    lines = v.lines;
+  }) (sym beside.same) refl
 
   changed_tables : KeepsTables old e
   changed_tables = tables_both old a e (keeps_tables history old a behind.machine.unchanged behind.reads)
@@ -206,10 +209,10 @@ module _ {M : Type 0} {history : M → Option History} {blocks faults write_faul
     changed_known : (own next : PlacedFile) → own ≡ next → next.used ≡ now → nodes_of b c ≡ with_node (nodes_of a c) number (Some (file_node own)) → AreKnown e c (insert numbered number (Leaf next))
     changed_known own next same used nodes = subst (λ (ns : Nodes). KnownBy e.uses ns (insert numbered number (Leaf next)))
         (sym (ap (λ (v : StoreValue M). nodes_of v c) same_again
-          ∙ nodes_lines b d (fold with_touched b.lines tsegs) lines c
-          ∙ nodes
-          ∙ ap (λ (ns : Nodes). with_node ns number (Some (file_node own))) (behind.reads.keeps h told c lies).nodes
-          ∙ ap (λ (f : PlacedFile). with_node (nodes_of old c) number (Some (file_node f))) same))
+        ∙ nodes_lines b d (fold with_touched b.lines tsegs) lines c
+        ∙ nodes
+        ∙ ap (λ (ns : Nodes). with_node ns number (Some (file_node own))) (behind.reads.keeps h told c lies).nodes
+        ∙ ap (λ (f : PlacedFile). with_node (nodes_of old c) number (Some (file_node f))) same))
         (changed_file old.uses e.uses (nodes_of old c) numbered known number now others_changed touches.own file there next used)
 
   -- IT IS DONE
@@ -218,14 +221,17 @@ module _ {M : Type 0} {history : M → Option History} {blocks faults write_faul
       → OfLeaf history old number (λ c shelf numbered file. AreAtHand old tsegs (work.needs file))
       → ChangesFile history a b number work.change
       → DoesWork history faults old e number work (step.Done reply)
-  change_done work reply ignores used is within hands changes = (changed_tables, λ h told c lies shelf numbered shows knows placed file there.
-      let one = leaf_node old c shelf numbered knows placed number file there in
-      let change = of_file_before behind number (λ c shelf file. Now (history b.log.machine) (λ s. LiesOver b c s) × (nodes_of b c ≡ with_node (nodes_of a c) number (Some (file_node (work.change shelf file)))))
-          changes h told c lies shelf (used_at one.0 file) shows one.1 in
-      record {
-        reply_is = is shelf file;
-        within = sym (within h told c lies shelf numbered shows knows placed file there);
-        uses = record { tsegs = tsegs; at_hand = hands h told c lies shelf numbered shows knows placed file there; lines = changed_lines };
-        over = changed_over c change.0;
-        known = changed_known h told c lies numbered knows.known file there (work.change shelf (used_at one.0 file)) (work.change shelf file) (ignores.change shelf one.0 file) (used shelf file) change.1;
-      })
+  change_done work reply ignores used is within hands changes = (
+    changed_tables,
+    λ h told c lies shelf numbered shows knows placed file there.
+        let one = leaf_node old c shelf numbered knows placed number file there in
+        let change = of_file_before behind number (λ c shelf file. Now (history b.log.machine) (λ s. LiesOver b c s) × (nodes_of b c ≡ with_node (nodes_of a c) number (Some (file_node (work.change shelf file)))))
+        changes h told c lies shelf (used_at one.0 file) shows one.1 in
+        record {
+          reply_is = is shelf file;
+          within = sym (within h told c lies shelf numbered shows knows placed file there);
+          uses = record { tsegs = tsegs; at_hand = hands h told c lies shelf numbered shows knows placed file there; lines = changed_lines };
+          over = changed_over c change.0;
+          known = changed_known h told c lies numbered knows.known file there (work.change shelf (used_at one.0 file)) (work.change shelf file) (ignores.change shelf one.0 file) (used shelf file) change.1;
+        },
+  )

@@ -19,5 +19,5 @@ module _ {M : Type 0} where
   abbrev pub IsFileAt : (M → Option History) → StoreValue M → List (List ℕ) → ℕ → Type 0
   IsFileAt history v path number = OfTree history v (λ c numbered. (file : PlacedFile)
       × (file_at (site_limits (layout v)) numbered path
-        ≡ Ok (record { number = number; content = file }))
+      ≡ Ok (record { number = number; content = file }))
       × (file.size ≤ 4243456))

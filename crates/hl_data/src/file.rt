@@ -48,7 +48,7 @@ pub(crate) fn file_at<M: Machine>(
 /// Says that the lines of these segments were used, one after another. Nothing else changes.
 pub(crate) fn touch_lines<M: Machine>(store: &mut Store<M>, tsegs: &[u32])
     ensures { store.new ≡ record store.old {
-        lines = fold with_touched store.old.lines tsegs.now;
+      lines = fold with_touched store.old.lines tsegs.now;
     } }
 {
     'tsegs: for tseg in tsegs {
