@@ -1,8 +1,9 @@
 -- A call on a file by its path is what is done with the file of its number.
-use Rattle.std.proofs.Common.{arith, ◌≡◌, ℕ, ◌+◌, ◌<◌, ◌≤◌, min, Bool, true, false, ◌&&◌, not, nat_eq, nat_lt, List, [], length, Option, Some, Ok, Err, refl, ◌∙◌, ap, sym, subst}
+use Rattle.std.proofs.Common.{arith, inl, inr, ◌≡◌, ◌≢◌, ℕ, ◌+◌, ◌<◌, ◌≤◌, min, Bool, true, false, ◌&&◌, not, nat_eq, nat_lt, List, [], length, Option, Some, Ok, Err, refl, ◌∙◌, ap, sym, subst}
+use Rattle.std.specs.Prelude.{◌==◌}
 use Rattle.std.specs.FinMap.{get}
 use Rattle.std.proofs.lemmas.Bool.{le-ltb, lt-ltb}
-use Rattle.std.proofs.lemmas.Bool.Decides.{nat_tests}
+use Rattle.std.proofs.lemmas.Bool.Decides.{eqb_tells, nat_tests}
 use Rattle.hl_media.specs.Causes.{Rose}
 use Rattle.hl_media.specs.History.{History}
 use Rattle.hl_media.specs.Moments.{Runs}
@@ -46,6 +47,13 @@ use Rattle.hl_data.proofs.DataExits.{cut_big, cut_done, cut_needed, cut_refused,
 -- a number above zero isn't zero
 not_zero : (n : ℕ) → 0 < n → nat_eq n 0 ≡ false
 not_zero n some = grind (arith, nat_tests)
+
+-- what a test for zero tells
+pub is_none : (n : ℕ) (b : Bool) → b ≡ (n == 0) → b ≡ true → n ≡ 0
+is_none n b tests is = elim (eqb_tells n 0) [ inl t ↦ t.1 | inr t ↦ let e = sym is ∙ tests ∙ t.0 in cc ]
+
+pub is_some : (n : ℕ) (b : Bool) → b ≡ (n == 0) → b ≡ false → 0 < n
+is_some n b tests is = elim (eqb_tells n 0) [ inl t ↦ let e = sym is ∙ tests ∙ t.0 in cc | inr t ↦ let ne : n ≢ 0 = t.1 in omega arith ]
 
 -- no block is touched by no bytes
 none_touched : (at n i : ℕ) → n ≡ 0 → (meets at (at + n) i && not (covers at (at + n) i)) ≡ false
@@ -123,19 +131,19 @@ module _ {M : Type 0} (history : M → Option History) (faults : M → ℕ) (old
 
 -- THE FILE AT A PATH of a store
 module _ {M : Type 0} (history : M → Option History) (old : StoreValue M) (now : ℕ) (path : List (List ℕ)) (number : ℕ) (found : IsFileAt history old path number) where
-  -- a read of it is work on it, and one from beyond its greatest size reads nothing
-  pub read_work : (at len : ℕ) → OfFiles history old (λ c shelf numbered.
-      IsWork (layout old) now (calls.Read path at len) (reading now (min at 4243456) len) number shelf numbered (done_by old shelf numbered now (calls.Read path at len)))
-  read_work at len h told c lies shelf numbered shows knows placed =
+  -- a read of it is work on it, from where a file may end where it is from beyond
+  pub read_work : (at len from : ℕ) → from ≡ min at 4243456 → OfFiles history old (λ c shelf numbered.
+      IsWork (layout old) now (calls.Read path at len) (reading now from len) number shelf numbered (done_by old shelf numbered now (calls.Read path at len)))
+  read_work at len from is h told c lies shelf numbered shows knows placed =
       let one = found h told c lies numbered knows in
-      record {
+      subst (λ (n : ℕ). IsWork (layout old) now (calls.Read path at len) (reading now n len) number shelf numbered (done_by old shelf numbered now (calls.Read path at len))) (sym is) (record {
         file = one.0;
         there = (file_found (site_limits (layout old)) numbered path number one.0 one.1).1;
         is = read_done (site_limits (layout old)) shelf numbered now path number one.0 one.1 at len
             ∙ ap (λ (bytes : List ℕ). Ok (replies.Data bytes, left_by (reading now at len) number shelf numbered one.0)) (sym (read_bytes-clamped at 4243456 len shelf one.0 one.2));
         needs = read_needed (site_limits (layout old)) shelf numbered now path number one.0 one.1 at len
             ∙ sym (read_needs-clamped at 4243456 len one.0 one.2);
-      }
+      })
 
   -- a cut to a size that a file may have
   pub cut_work : (size : ℕ) → size ≤ 4243456 → OfFiles history old (λ c shelf numbered.

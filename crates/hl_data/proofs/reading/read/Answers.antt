@@ -20,7 +20,7 @@ pub returns-clause-made : goal.returns-clause-made
 returns-clause-made g c =
     call_made {M = g.row.M.Denot} g.M.Machine.history g.M.Machine.faults c.args.store.now c.file_at.new.store c.file_at.ensures.reads c.file_at.ensures.machine.unchanged c.file_at.ensures.machine.faults_most
     c.args.now (calls.Read c.args.path.now c.args.at c.args.len) c.read_from.new.store c.read_from.ensures.machine.unchanged c.in-Ok.number (reading c.args.now c.min.result c.args.len)
-    ?
+    (read_work g.M.Machine.history c.args.store.now c.args.now c.args.path.now c.in-Ok.number c.in-Ok.ensures.is c.args.at c.args.len c.min.result c.min.ensures)
     c.read_from.result c.read_from.ensures.work
 
 pub returns-clause-machine : goal.returns-clause-machine

@@ -1,3 +1,4 @@
+use Rattle.hl_store.proofs.ReadRuns.{rose_since}
 use Rattle.hl_calls.proofs.FileReads.{read_more, read_none, read_one}
 use Rattle.hl_data.proofs.TreeFiles.{reading_ignores}
 use Rattle.hl_data.proofs.WorkSteps.{read_done, used_machine}
@@ -14,7 +15,13 @@ returns-in-Missing-clause-work g c =
     c.in-Missing.ensures.needs
 
 pub returns-in-DiskFault-read_range-clause-work : goal.returns-in-DiskFault-read_range-clause-work
-returns-in-DiskFault-read_range-clause-work g c = ?
+returns-in-DiskFault-read_range-clause-work g c = ((read_more (read_one c.read_needs.ensures.reads c.read_needs.ensures.machine) c.read_range.ensures.reads c.read_range.ensures.machine).reads, rose_since _ _ _ c.read_needs.ensures.machine.faults_most c.in-DiskFault-read_range.ensures.range.1)
+
+pub returns-in-DiskFault-read_range-clause-machine : goal.returns-in-DiskFault-read_range-clause-machine
+returns-in-DiskFault-read_range-clause-machine g c = (read_more (read_one c.read_needs.ensures.reads c.read_needs.ensures.machine) c.read_range.ensures.reads c.read_range.ensures.machine).machine
+
+pub returns-in-Memory-read_range-clause-machine : goal.returns-in-Memory-read_range-clause-machine
+returns-in-Memory-read_range-clause-machine g c = (read_more (read_one c.read_needs.ensures.reads c.read_needs.ensures.machine) c.read_range.ensures.reads c.read_range.ensures.machine).machine
 
 pub returns-in-Memory-read_range-clause-work : goal.returns-in-Memory-read_range-clause-work
 returns-in-Memory-read_range-clause-work g c = (read_more (read_one c.read_needs.ensures.reads c.read_needs.ensures.machine) c.read_range.ensures.reads c.read_range.ensures.machine).reads

@@ -19,16 +19,16 @@ returns-in-Err-clause-made g c =
     c.args.now (calls.Cut c.args.path.now c.args.size) c.args.path.now c.in-Err.halt c.in-Err.ensures.halts
     (λ why shelf numbered lost. cut_refused (site_limits (layout c.args.store.now)) shelf numbered c.args.now c.args.path.now why lost c.args.size))
 
-pub returns-then-FILE_MAX-clause-made : goal.returns-then-FILE_MAX-clause-made
-returns-then-FILE_MAX-clause-made g c =
+pub returns-then-size-gt-FILE_MAX-clause-made : goal.returns-then-size-gt-FILE_MAX-clause-made
+returns-then-size-gt-FILE_MAX-clause-made g c =
     ends_refused {M = g.row.M.Denot} g.M.Machine.history c.args.store.now c.file_at.new.store c.file_at.ensures.machine.unchanged c.file_at.ensures.reads g.M.Machine.faults c.args.now (calls.Cut c.args.path.now c.args.size) Efbig
-    (cut_beyond g.M.Machine.history c.args.store.now c.args.now c.args.path.now c.in-Ok.number c.in-Ok.ensures.is c.args.size c.if-FILE_MAX.true)
+    (cut_beyond g.M.Machine.history c.args.store.now c.args.now c.args.path.now c.in-Ok.number c.in-Ok.ensures.is c.args.size c.if-size-gt-FILE_MAX.true)
 
 pub returns-clause-made : goal.returns-clause-made
 returns-clause-made g c =
     call_made {M = g.row.M.Denot} g.M.Machine.history g.M.Machine.faults c.args.store.now c.file_at.new.store c.file_at.ensures.reads c.file_at.ensures.machine.unchanged c.file_at.ensures.machine.faults_most
     c.args.now (calls.Cut c.args.path.now c.args.size) c.cut_to.new.store c.cut_to.ensures.machine.unchanged c.in-Ok.number (cutting c.args.now c.args.size)
-    (cut_work g.M.Machine.history c.args.store.now c.args.now c.args.path.now c.in-Ok.number c.in-Ok.ensures.is c.args.size c.if-FILE_MAX-lt-size.false)
+    (cut_work g.M.Machine.history c.args.store.now c.args.now c.args.path.now c.in-Ok.number c.in-Ok.ensures.is c.args.size c.if-size-gt-FILE_MAX.false)
     c.cut_to.result c.cut_to.ensures.work
 
 pub returns-clause-machine : goal.returns-clause-machine
