@@ -1,12 +1,12 @@
 -- What is found of files and lines behind reads, before them.
-use Rattle.std.proofs.Common.{◌≡◌, ℕ, ◌+◌, List, [], ◌∷◌, Option, Some, None, refl, sym, ◌∙◌, ap, subst}
+use Rattle.std.proofs.Common.{◌≡◌, ℕ, ◌+◌, List, [], ◌∷◌, Option, Some, None, ◌∙◌, ap, subst}
 use Rattle.std.specs.List.{fold}
 use Rattle.hl_media.specs.History.{History, MachineState, state_now}
 use Rattle.hl_media.specs.Moments.{Runs}
 use Rattle.hl_addr.specs.Layout.{Layout}
 use Rattle.hl_lines.specs.declared.state.LineState.{LineState}
 use Rattle.hl_lines.specs.Lines.{line_with}
-use Rattle.hl_lines.specs.LineTable.{Lines, with_touched}
+use Rattle.hl_lines.specs.LineTable.{with_touched}
 use Rattle.hl_log.specs.Logs.{with_machine}
 use Rattle.hl_log.specs.Rest.{IsUnchanged}
 use Rattle.hl_tseg.specs.SlotTable.{SlotTable, slot_at}
@@ -16,7 +16,6 @@ use Rattle.hl_paths.specs.Numbered.{Numbering}
 use Rattle.hl_nodes.specs.Contents.{Contents}
 use Rattle.hl_nodes.specs.Lines.{line_start}
 use Rattle.hl_store.specs.Values.{StoreValue, layout}
-use Rattle.hl_store.specs.Lying.{LiesOver}
 use Rattle.hl_store.specs.Finding.{ReadsNodes}
 use Rattle.hl_ranges.specs.Files.{LinesShow}
 use Rattle.hl_ranges.specs.Needs.{AreAtHand, IsFirstMissing}

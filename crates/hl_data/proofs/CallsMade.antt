@@ -1,14 +1,12 @@
 -- A call on a file by its path is what is done with the file of its number.
-use Rattle.std.proofs.Common.{arith, inl, inr, ◌≡◌, ◌≢◌, ℕ, ◌+◌, ◌<◌, ◌≤◌, min, Bool, true, false, ◌&&◌, not, nat_eq, nat_lt, List, [], length, Option, Some, Ok, Err, refl, ◌∙◌, ap, sym, subst}
+use Rattle.std.proofs.Common.{arith, inl, inr, ◌≡◌, ◌≢◌, ℕ, ◌+◌, ◌<◌, ◌≤◌, min, Bool, true, false, ◌&&◌, not, nat_eq, nat_lt, List, [], length, Option, Some, Ok, Err, ◌∙◌, ap, sym, subst}
 use Rattle.std.specs.Prelude.{◌==◌}
 use Rattle.std.specs.FinMap.{get}
 use Rattle.std.proofs.lemmas.Bool.{le-ltb, lt-ltb}
 use Rattle.std.proofs.lemmas.Bool.Decides.{eqb_tells, nat_tests}
-use Rattle.hl_media.specs.Causes.{Rose}
 use Rattle.hl_media.specs.History.{History}
 use Rattle.hl_media.specs.Moments.{Runs}
 use Rattle.hl_addr.specs.Layout.{Layout, quota}
-use Rattle.hl_log.specs.Logs.{OnlyReads}
 use Rattle.hl_log.specs.Rest.{IsUnchanged}
 use Rattle.hl_tree.specs.declared.call.Call.{Call}
 use Rattle.hl_tree.specs.declared.call.Call.TheVariants as calls
@@ -20,9 +18,8 @@ use Rattle.hl_placed.specs.Calls.{write_needs}
 use Rattle.hl_placed.specs.Changes.{covers, meets}
 use Rattle.hl_paths.specs.ByNumbers.{NumberedDone, file_at, needed, numbered_left, numbered_reply}
 use Rattle.hl_paths.specs.Charges.{nodes_charge}
-use Rattle.hl_paths.specs.Files.{is_over_quota, is_taken}
+use Rattle.hl_paths.specs.Files.{is_taken}
 use Rattle.hl_paths.specs.Numbered.{Leaf, Numbering}
-use Rattle.hl_nodes.specs.Contents.{Contents}
 use Rattle.hl_store.specs.Values.{StoreValue, layout}
 use Rattle.hl_store.specs.Finding.{ReadsNodes}
 use Rattle.hl_store.proofs.ReadRuns.{rose_since, unchanged_then}
@@ -33,16 +30,16 @@ use Rattle.hl_walk.specs.Walks.{Halts}
 use Rattle.hl_walk.proofs.KeptTrees.{layout_kept, reads_both}
 use Rattle.hl_calls.specs.declared.step.FileStep.{FileStep}
 use Rattle.hl_calls.specs.declared.step.FileStep.TheVariants as step
-use Rattle.hl_calls.specs.Calls.{IsNeed, MakesCall, UsesLines, done_by, halted_step, is_over, needed_by}
+use Rattle.hl_calls.specs.Calls.{MakesCall, UsesLines, done_by, halted_step, is_over, needed_by}
 use Rattle.hl_calls.specs.Growths.{exceeds}
 use Rattle.hl_calls.specs.Trees.{OfFiles, site_limits}
-use Rattle.hl_calls.proofs.Ends.{ends_answered, ends_in_fault, ends_in_want, ends_needing, ends_refused, ends_without_space, keeps_tables}
+use Rattle.hl_calls.proofs.Ends.{ends_in_fault, ends_in_want, ends_needing, ends_refused, ends_without_space, keeps_tables}
 use Rattle.hl_ranges.specs.Needs.{IsFirstMissing}
 use Rattle.hl_data.specs.ByNumber.{DoesWork, FileWork, IsWorkDone, IsWorkNeeding, cutting, is_over_by, left_by, reading, writing}
 use Rattle.hl_data.specs.Files.{IsFileAt, IsNoFileAt}
 use Rattle.hl_data.proofs.Before.{missing_before, of_files_before, tables_both, uses_before}
 use Rattle.hl_data.proofs.ClampedReads.{meets-none, read_bytes-clamped, read_needs-clamped, serials-none}
-use Rattle.hl_data.proofs.DataExits.{cut_big, cut_done, cut_needed, cut_refused, file_found, read_done, read_needed, read_refused, write_big, write_done, write_long, write_needed, write_none, write_refused}
+use Rattle.hl_data.proofs.DataExits.{cut_big, cut_done, cut_needed, file_found, read_done, read_needed, write_big, write_done, write_long, write_needed, write_none}
 
 -- a number above zero isn't zero
 not_zero : (n : ℕ) → 0 < n → nat_eq n 0 ≡ false

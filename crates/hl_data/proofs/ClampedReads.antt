@@ -1,5 +1,5 @@
 -- A read from beyond the greatest size of a file is one from there.
-use Rattle.std.proofs.Common.{arith, ◌≡◌, inl, inr, ℕ, ◌+◌, ◌*◌, ◌<◌, ◌≤◌, min, Bool, false, ◌&&◌, not, nat_lt, List, [], ◌∷◌, length, take, drop, Option, None, refl, ◌∙◌, ap, sym}
+use Rattle.std.proofs.Common.{arith, ◌≡◌, inl, inr, ℕ, ◌+◌, ◌*◌, ◌<◌, ◌≤◌, min, Bool, false, ◌&&◌, nat_lt, List, [], ◌∷◌, length, take, Option, None, refl, ◌∙◌, ap, sym}
 use Rattle.std.specs.List.{cons_option, filter_map, range_with_len}
 use Rattle.std.proofs.lemmas.Bool.{cases_lt, le-ltb}
 use Rattle.std.proofs.lemmas.List.{drop_all}

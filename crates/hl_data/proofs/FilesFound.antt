@@ -1,16 +1,15 @@
 -- Where a path leads to a file of a store, and where it leads to none.
-use Rattle.std.proofs.Common.{◌≡◌, ℕ, ◌≤◌, false, true, List, Option, Some, Err, subst}
+use Rattle.std.proofs.Common.{◌≡◌, ℕ, ◌≤◌, false, true, List, Option, Some, subst}
 use Rattle.std.specs.FinMap.{get}
 use Rattle.hl_media.specs.History.{History, state_now}
 use Rattle.hl_media.specs.Moments.{Runs}
 use Rattle.hl_log.specs.Rest.{IsUnchanged}
 use Rattle.hl_inode.specs.declared.inode.Kind.TheVariants.{Dir, File}
-use Rattle.hl_tree.specs.declared.call.Refusal.{Refusal}
 use Rattle.hl_tree.specs.declared.call.Refusal.TheVariants.{Eisdir, Enametoolong}
 use Rattle.hl_tree.specs.Names.{is_too_long}
 use Rattle.hl_dir.specs.declared.entry.Entry.{Entry}
 use Rattle.hl_placed.specs.Blocks.{PlacedFile}
-use Rattle.hl_paths.specs.Numbered.{Directory, Leaf, Numbering}
+use Rattle.hl_paths.specs.Numbered.{Directory, Leaf}
 use Rattle.hl_store.specs.declared.answers.Node.{Node}
 use Rattle.hl_store.specs.Values.{StoreValue, layout}
 use Rattle.hl_store.specs.Finding.{HasNodeFound, OverNow, ReadsNodes}

@@ -1,12 +1,11 @@
 -- A file of a tree, and the node that a store has of it: they differ in their last use alone.
-use Rattle.std.proofs.Common.{◌≡◌, ℕ, List, Option, Some, refl, ◌∙◌, ap, sym, subst}
+use Rattle.std.proofs.Common.{◌≡◌, ℕ, List, Option, Some, refl, ◌∙◌, ap}
 use Rattle.std.specs.FinMap.{get}
 use Rattle.hl_media.specs.History.{History}
 use Rattle.hl_placed.specs.Blocks.{IsPlacedFile, PlacedFile, Shelf, plain_bytes}
 use Rattle.hl_placed.specs.Changes.{cut_file, rewritten, used_at, written_file}
-use Rattle.hl_paths.specs.Nodes.{FlatNode, flat_node}
+use Rattle.hl_paths.specs.Nodes.{FlatNode}
 use Rattle.hl_paths.specs.Numbered.{Leaf, Numbering}
-use Rattle.hl_tree.specs.declared.call.Reply.{Reply}
 use Rattle.hl_nodes.specs.Contents.{Contents}
 use Rattle.hl_store.specs.Values.{StoreValue}
 use Rattle.hl_ranges.specs.Files.{HasFile, OfFile}

@@ -12,7 +12,7 @@ use Rattle.hl_log.specs.Logs.{OnlyReads, with_machine}
 use Rattle.hl_tree.specs.declared.call.Reply.{Reply}
 use Rattle.hl_placed.specs.Blocks.{PlacedFile, Shelf}
 use Rattle.hl_placed.specs.Changes.{used_at}
-use Rattle.hl_paths.specs.Nodes.{FlatNode, Nodes, flat_node}
+use Rattle.hl_paths.specs.Nodes.{Nodes}
 use Rattle.hl_paths.specs.Numbered.{Leaf, Numbering}
 use Rattle.hl_nodes.specs.Contents.{Contents}
 use Rattle.hl_overlay.specs.declared.draft.NodeDraft.{NodeDraft}
@@ -27,11 +27,11 @@ use Rattle.hl_ranges.specs.Needs.{AreAtHand}
 use Rattle.hl_ranges.specs.Ranges.{ChangesFile, StaysBeside}
 use Rattle.hl_walk.specs.Trees.{AreKnown}
 use Rattle.hl_calls.specs.declared.step.FileStep.TheVariants as step
-use Rattle.hl_calls.specs.Calls.{KeepsTables, UsesLines}
+use Rattle.hl_calls.specs.Calls.{KeepsTables}
 use Rattle.hl_calls.proofs.Ends.{keeps_tables, now_after}
 use Rattle.hl_calls.proofs.FileReads.{OnlyRead, of_file_before}
 use Rattle.hl_calls.proofs.KnownChanges.{KnownBy, changed_file, touched_shown, touched_waits}
-use Rattle.hl_data.specs.ByNumber.{DoesWork, FileWork, OfLeaf, TellsOver, left_by, reading}
+use Rattle.hl_data.specs.ByNumber.{DoesWork, FileWork, OfLeaf, TellsOver, reading}
 use Rattle.hl_data.proofs.Before.{tables_both}
 use Rattle.hl_data.proofs.TreeFiles.{IgnoresUse, UsesAt, leaf_node}
 

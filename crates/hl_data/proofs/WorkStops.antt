@@ -1,6 +1,6 @@
 -- Work on a file that isn't done.
-use Rattle.std.proofs.Common.{◌≡◌, ℕ, ◌+◌, Bool, true, false, List, [], ◌++◌, Option, Some, refl, ◌∙◌, ap, sym, subst, arith}
-use Rattle.std.specs.FinMap.{get, insert}
+use Rattle.std.proofs.Common.{◌≡◌, ℕ, ◌+◌, Bool, false, List, [], ◌++◌, Option, Some, ◌∙◌, ap, sym, subst, arith}
+use Rattle.std.specs.FinMap.{get}
 use Rattle.hl_media.specs.History.{History, state_now}
 use Rattle.hl_addr.specs.Layout.{Layout, quota}
 use Rattle.hl_tree.specs.declared.call.Reply.TheVariants as replies
@@ -10,7 +10,6 @@ use Rattle.hl_placed.specs.Changes.{used_at}
 use Rattle.hl_placed.specs.Charges.{blocks_charge}
 use Rattle.hl_paths.specs.Charges.{nodes_charge}
 use Rattle.hl_paths.specs.Numbered.{Leaf, Numbering}
-use Rattle.hl_nodes.specs.Contents.{Contents}
 use Rattle.hl_store.specs.Values.{StoreValue, layout}
 use Rattle.hl_store.specs.Finding.{ReadsNodes}
 use Rattle.hl_ranges.specs.declared.ranges.RangeStep.{RangeStep}

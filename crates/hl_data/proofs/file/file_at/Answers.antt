@@ -1,4 +1,4 @@
-use Rattle.std.proofs.Common.{◌≡◌, ◌∙◌, ap, false, true, sym, subst}
+use Rattle.std.proofs.Common.{◌≡◌, ◌∙◌, ap, false, sym, subst}
 use Rattle.std.proofs.lemmas.Result.{err_from_is_err_and}
 use Rattle.hl_tree.specs.Names.{is_too_long}
 use Rattle.hl_store.proofs.ReadRuns.{reads_then}

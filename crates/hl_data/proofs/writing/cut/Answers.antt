@@ -2,11 +2,10 @@ use Rattle.std.proofs.Common.{sym, subst}
 use Rattle.hl_store.proofs.ReadRuns.{reads_then}
 use Rattle.hl_store.specs.Values.{layout}
 use Rattle.hl_tree.specs.declared.call.Call.TheVariants as calls
-use Rattle.hl_tree.specs.declared.call.Reply.TheVariants as replies
-use Rattle.hl_tree.specs.declared.call.Refusal.TheVariants.{Efbig, Einval}
+use Rattle.hl_tree.specs.declared.call.Refusal.TheVariants.{Efbig}
 use Rattle.hl_calls.specs.Calls.{MakesCall}
 use Rattle.hl_calls.specs.Trees.{site_limits}
-use Rattle.hl_calls.proofs.Ends.{ends_answered, ends_refused}
+use Rattle.hl_calls.proofs.Ends.{ends_refused}
 use Rattle.hl_data.specs.ByNumber.{cutting}
 use Rattle.hl_data.proofs.CallsMade.{call_made, ends_halted, cut_beyond, cut_work}
 use Rattle.hl_data.proofs.DataExits.{cut_refused}

@@ -1,4 +1,3 @@
-use Rattle.std.proofs.lemmas.Result.{err_from_is_err_and}
 use Rattle.hl_data.specs.ByNumber.{writing}
 use Rattle.hl_data.proofs.TreeFiles.{writing_ignores}
 use Rattle.hl_data.proofs.WorkStops.{over_by_growth}
