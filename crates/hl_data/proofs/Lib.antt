@@ -1,1 +1,8 @@
+mod Before
+mod CallsMade
+mod ClampedReads
 mod DataExits
+mod FilesFound
+mod TreeFiles
+mod WorkSteps
+mod WorkStops

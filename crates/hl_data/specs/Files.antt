@@ -1,5 +1,5 @@
 -- The file that a path leads to.
-use Rattle.std.specs.Prelude.{◌≡◌, ℕ, List, Option, Ok, Err}
+use Rattle.std.specs.Prelude.{◌≡◌, ℕ, ◌≤◌, List, Option, Ok, Err}
 use Rattle.hl_media.specs.History.{History}
 use Rattle.hl_addr.specs.Layout.{Layout}
 use Rattle.hl_tree.specs.declared.call.Refusal.{Refusal}
@@ -15,7 +15,9 @@ abbrev pub IsNoFileAt : Layout → List (List ℕ) → Numbering PlacedFile → 
 IsNoFileAt g path numbered why = file_at (site_limits g) numbered path ≡ Err why
 
 module _ {M : Type 0} where
-  -- the file of a number is what a path leads to
+  -- the file of a number is what a path leads to, and no longer than a file may be
   abbrev pub IsFileAt : (M → Option History) → StoreValue M → List (List ℕ) → ℕ → Type 0
   IsFileAt history v path number = OfTree history v (λ c numbered. (file : PlacedFile)
-      × (file_at (site_limits (layout v)) numbered path ≡ Ok (record { number = number; content = file })))
+      × (file_at (site_limits (layout v)) numbered path
+      ≡ Ok (record { number = number; content = file }))
+      × (file.size ≤ 4243456))

@@ -45,11 +45,13 @@ pub(crate) fn file_at<M: Machine>(
     }
 }
 
-/// Says that the lines of these segments were used, one after another.
+/// Says that the lines of these segments were used, one after another. Nothing else changes.
 pub(crate) fn touch_lines<M: Machine>(store: &mut Store<M>, tsegs: &[u32])
-    ensures lines { store.new.lines ≡ fold with_touched store.old.lines tsegs.now }
+    ensures { store.new ≡ record store.old {
+      lines = fold with_touched store.old.lines tsegs.now;
+    } }
 {
-    for tseg in tsegs {
+    'tsegs: for tseg in tsegs {
         store.touch_line(*tseg);
     }
 }

@@ -1,8 +1,13 @@
 //! Writing and cutting.
 
+ghost use Rattle.std.specs.Prelude.{◌+◌, ◌<◌, ◌≤◌, IfErr, IfOk, ℕ, length};
 ghost use Rattle.hl_log.specs.Logs.{OnlyReads};
 ghost use Rattle.hl_tree.specs.declared.call.Call.TheVariants as calls;
+ghost use Rattle.hl_store.specs.Shapes.{IsNumber};
+ghost use Rattle.hl_store.specs.Finding.{ReadsNodes};
+ghost use Rattle.hl_ranges.specs.Writing.{Stops};
 ghost use Rattle.hl_calls.specs.Calls.{MakesCall};
+ghost use Rattle.hl_data.specs.ByNumber.{DoesWork, TellsOver, cutting, writing};
 
 use crate::file::{file_at, touch_lines};
 use hl_calls::{FILE_MAX, FileStep, cut_growth, is_over, write_growth};
@@ -47,6 +52,28 @@ pub fn write<M: Machine>(
     write_into(store, alloc, now, number, at, bytes)
 }
 
+/// Whether a write makes the charge exceed the quota.
+fn is_over_by_write<M: Machine>(
+    store: &mut Store<M>,
+    alloc: Global,
+    number: u32,
+    at: u64,
+    bytes: &[u8],
+) -> Result<bool, RangeStep>
+    requires number { IsNumber store.old number }
+    requires some { 0 < length bytes.now }
+    requires within { at + length bytes.now ≤ 4243456 }
+    ensures over { IfOk result (λ over. (now : ℕ)
+        → TellsOver M.history store.old number (writing now at bytes.now) over) }
+    ensures stops { IfErr result (Stops M.faults store.old store.new) }
+    ensures reads { ReadsNodes M.history store.old store.new }
+    ensures machine { OnlyReads M.history M.blocks M.faults M.write_faults M.say_faults
+        store.old.log.machine store.new.log.machine }
+{
+    let growth = write_growth(store, alloc, number, at, bytes)?;
+    Ok(is_over(store, &growth))
+}
+
 /// Puts some bytes into a file, if the quota allows it and what it needs is at hand.
 fn write_into<M: Machine>(
     store: &mut Store<M>,
@@ -55,14 +82,21 @@ fn write_into<M: Machine>(
     number: u32,
     at: u64,
     bytes: &[u8],
-) -> FileStep {
-    match write_growth(store, alloc, number, at, bytes) {
-        Ok(growth) => {
-            if is_over(store, &growth) {
-                return FileStep::NoSpace;
-            }
-        }
+) -> FileStep
+    requires number { IsNumber store.old number }
+    requires some { 0 < length bytes.now }
+    requires within { at + length bytes.now ≤ 4243456 }
+    ensures work { DoesWork M.history M.faults store.old store.new number
+        (writing now at bytes.now) result }
+    ensures machine { OnlyReads M.history M.blocks M.faults M.write_faults M.say_faults
+        store.old.log.machine store.new.log.machine }
+{
+    let is_over = match is_over_by_write(store, alloc, number, at, bytes) {
+        Ok(is_over) => is_over,
         Err(step) => return FileStep::stopped(step),
+    };
+    if is_over {
+        return FileStep::NoSpace;
     }
     let mut tsegs = Vec::new(alloc);
     match write_needs(store, alloc, number, at, bytes, &mut tsegs) {
@@ -73,9 +107,12 @@ fn write_into<M: Machine>(
     }
     match write_range(store, alloc, number, at, bytes, now) {
         RangeStep::Done => {}
-        step => return FileStep::stopped(step),
+        RangeStep::DiskFault => return FileStep::DiskFault,
+        RangeStep::Memory => return FileStep::Memory,
     }
     touch_lines(store, tsegs.as_slice());
+    // The change said so already; that its number has a last use is told by this call alone.
+    store.touch(number, now);
     FileStep::Done(Reply::Ok)
 }
 
@@ -102,6 +139,26 @@ pub fn cut<M: Machine>(
     cut_to(store, alloc, now, number, size)
 }
 
+/// Whether a cut makes the charge exceed the quota.
+fn is_over_by_cut<M: Machine>(
+    store: &mut Store<M>,
+    alloc: Global,
+    number: u32,
+    size: u64,
+) -> Result<bool, RangeStep>
+    requires number { IsNumber store.old number }
+    requires size { size ≤ 4243456 }
+    ensures over { IfOk result (λ over. (now : ℕ)
+        → TellsOver M.history store.old number (cutting now size) over) }
+    ensures stops { IfErr result (Stops M.faults store.old store.new) }
+    ensures reads { ReadsNodes M.history store.old store.new }
+    ensures machine { OnlyReads M.history M.blocks M.faults M.write_faults M.say_faults
+        store.old.log.machine store.new.log.machine }
+{
+    let growth = cut_growth(store, alloc, number, size)?;
+    Ok(is_over(store, &growth))
+}
+
 /// Gives a file another size, if the quota allows it and what it needs is at hand.
 fn cut_to<M: Machine>(
     store: &mut Store<M>,
@@ -109,14 +166,20 @@ fn cut_to<M: Machine>(
     now: u64,
     number: u32,
     size: u64,
-) -> FileStep {
-    match cut_growth(store, alloc, number, size) {
-        Ok(growth) => {
-            if is_over(store, &growth) {
-                return FileStep::NoSpace;
-            }
-        }
+) -> FileStep
+    requires number { IsNumber store.old number }
+    requires size { size ≤ 4243456 }
+    ensures work { DoesWork M.history M.faults store.old store.new number
+        (cutting now size) result }
+    ensures machine { OnlyReads M.history M.blocks M.faults M.write_faults M.say_faults
+        store.old.log.machine store.new.log.machine }
+{
+    let is_over = match is_over_by_cut(store, alloc, number, size) {
+        Ok(is_over) => is_over,
         Err(step) => return FileStep::stopped(step),
+    };
+    if is_over {
+        return FileStep::NoSpace;
     }
     let mut tsegs = Vec::new(alloc);
     match cut_needs(store, alloc, number, size, &mut tsegs) {
@@ -127,8 +190,11 @@ fn cut_to<M: Machine>(
     }
     match cut_range(store, alloc, number, size, now) {
         RangeStep::Done => {}
-        step => return FileStep::stopped(step),
+        RangeStep::DiskFault => return FileStep::DiskFault,
+        RangeStep::Memory => return FileStep::Memory,
     }
     touch_lines(store, tsegs.as_slice());
+    // The change said so already; that its number has a last use is told by this call alone.
+    store.touch(number, now);
     FileStep::Done(Reply::Ok)
 }
