@@ -1,0 +1,4 @@
+pub mod MachineReads
+mod ReadyRooms
+pub mod StoppedCalls
+pub mod LinkedTrees
