@@ -127,7 +127,7 @@ module _ {M : Type 0} where
     tree_changed old new Becomes beside over so = record {
       lines = lines_beside old new beside;
       tree = λ h told c lies before after known becomes. record {
-        over = subst (λ (m : M). Now (history m) (λ s. LiesOver new c s)) (sym (ap (λ (v : StoreValue M). v.log.machine) beside)) (λ h' told' . subst (λ s. LiesOver new c s) (same_state h h' (sym told ∙ told')) (over c (state_now h) lies));
+        over = subst (λ (m : M). Now (history m) (λ s. LiesOver new c s)) (sym (ap (λ (v : StoreValue M). v.log.machine) beside)) (λ h' told'. subst (λ s. LiesOver new c s) (same_state h h' (sym told ∙ told')) (over c (state_now h) lies));
         known = so c (state_now h) lies before after known becomes;
       };
     }

@@ -5,6 +5,7 @@ use Rattle.hl_media.specs.Causes.{Rose}
 use Rattle.hl_media.specs.History.{History}
 use Rattle.hl_media.specs.Moments.{Now}
 use Rattle.hl_log.specs.Logs.{with_machine}
+use Rattle.hl_tree.specs.declared.call.Reply.TheVariants as replies
 use Rattle.hl_tree.specs.declared.call.Refusal.{Refusal}
 use Rattle.hl_tree.specs.declared.call.Refusal.TheVariants.{Eisdir, Enotdir, Enotempty}
 use Rattle.hl_inode.specs.declared.inode.Kind.{Kind}
@@ -17,7 +18,7 @@ use Rattle.hl_nodes.specs.Contents.{Contents}
 use Rattle.hl_overlay.specs.DraftTables.{draft_of}
 use Rattle.hl_store.specs.Values.{StoreValue}
 use Rattle.hl_store.specs.Lying.{LiesOver}
-use Rattle.hl_store.specs.Finding.{OverNow}
+use Rattle.hl_store.specs.Finding.{OverNow, ReadsNodes}
 use Rattle.hl_walk.specs.Trees.{AreKnown}
 use Rattle.hl_calls.specs.declared.step.FileStep.{FileStep}
 use Rattle.hl_calls.specs.declared.step.FileStep.TheVariants as step
@@ -82,3 +83,14 @@ module _ {M : Type 0} where
     pub lines : KeepsLines old new
     pub tree : OverNow history old (λ s c. (before after : Numbering PlacedFile)
         → AreKnown old c before → Becomes before after → KnowsNow history new c after)
+
+  -- How a change of the tree ends: it is done so, or stops before its first change.
+  abbrev pub ChangesOrStops : (M → Option History) → (M → ℕ) → StoreValue M → StoreValue M
+      → (Numbering PlacedFile → Numbering PlacedFile → Type 0) → FileStep → Type 0
+  ChangesOrStops history faults old new Becomes (step.Done reply) =
+      (reply ≡ replies.Ok) × ChangesTree history old new Becomes
+  ChangesOrStops history faults old new Becomes (step.Needs tseg) = ⊥
+  ChangesOrStops history faults old new Becomes step.NoSpace = ⊥
+  ChangesOrStops history faults old new Becomes step.DiskFault = ReadsNodes history old new
+      × Rose (faults old.log.machine) (faults new.log.machine)
+  ChangesOrStops history faults old new Becomes step.Memory = ReadsNodes history old new
