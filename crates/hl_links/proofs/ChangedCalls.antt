@@ -2,6 +2,7 @@
 use Rattle.std.proofs.Common.{◌≡◌, ℕ, false, List, [], Option, Ok, refl, ap, ◌∙◌, sym, subst}
 use Rattle.hl_media.specs.History.{History}
 use Rattle.hl_media.specs.Moments.{Runs}
+use Rattle.hl_log.specs.Logs.{OnlyReads}
 use Rattle.hl_log.specs.Rest.{IsUnchanged}
 use Rattle.hl_tree.specs.declared.call.Call.{Call}
 use Rattle.hl_tree.specs.declared.call.Reply.{Reply}
@@ -12,12 +13,16 @@ use Rattle.hl_paths.specs.Numbered.{Numbering}
 use Rattle.hl_nodes.specs.Contents.{Contents}
 use Rattle.hl_store.specs.Values.{StoreValue}
 use Rattle.hl_store.specs.Finding.{ReadsNodes}
+use Rattle.hl_store.proofs.ReadRuns.{reads_then}
 use Rattle.hl_ranges.specs.Needs.{AreAtHand}
 use Rattle.hl_walk.specs.Trees.{AreKnown}
+use Rattle.hl_walk.proofs.KeptTrees.{reads_both}
+use Rattle.hl_calls.specs.declared.step.FileStep.{FileStep}
 use Rattle.hl_calls.specs.declared.step.FileStep.TheVariants as step
 use Rattle.hl_calls.specs.Calls.{MakesCall, done_by, is_over, needed_by}
 use Rattle.hl_calls.specs.Trees.{OfFiles}
-use Rattle.hl_links.specs.Links.{ChangesTree, KnowsNow}
+use Rattle.hl_links.specs.Links.{ChangesOrStops, ChangesTree, KnowsNow, StopsBefore}
+use Rattle.hl_links.proofs.StoppedCalls.{ends_stopped, stops_since}
 use Rattle.hl_links.proofs.LinkedTrees.{lines_both, lines_read, lines_tables, tree_both, tree_read}
 
 module _ {M : Type 0} where
@@ -53,3 +58,20 @@ module _ {M : Type 0} where
     where
       whole : ChangesTree history old new (λ before after. (between : Numbering PlacedFile) × (between ≡ before) × Becomes between after)
       whole = tree_both history old mid new (λ before after. after ≡ before) Becomes run (tree_read history old mid run reads) change
+
+  module _ (history : M → Option History) (blocks faults write_faults say_faults : M → ℕ) (old mid new : StoreValue M) (reads : ReadsNodes history old mid) (machine : OnlyReads history blocks faults write_faults say_faults old.log.machine mid.log.machine)
+      (more : OnlyReads history blocks faults write_faults say_faults mid.log.machine new.log.machine) (now : ℕ) (call : Call) where
+    -- a change that stops behind reads leaves all as it was
+    pub ends_stopped_since : (stop : FileStep) → ReadsNodes history mid new → StopsBefore faults mid new stop → MakesCall history faults old new now call stop
+    ends_stopped_since stop then is =
+        ends_stopped history faults old new (reads_then machine more).unchanged (reads_both history old mid reads machine.unchanged new then) now call stop
+        (stops_since faults old mid new machine.faults_most stop is)
+
+    -- HOW A CHANGE ENDS is how the call does
+    pub ends_linked : (Becomes : Numbering PlacedFile → Numbering PlacedFile → Type 0) → OfFiles history old (λ c shelf numbered. IsByRules old now call Becomes shelf numbered)
+        → (stop : FileStep) → ChangesOrStops history faults mid new Becomes stop → MakesCall history faults old new now call stop
+    ends_linked Becomes by (step.Done reply) is = subst (λ r. MakesCall history faults old new now call (step.Done r)) (sym is.0) (ends_changed history faults old mid new machine.unchanged reads Becomes is.1 now call by)
+    ends_linked Becomes by (step.Needs tseg) is = absurd is
+    ends_linked Becomes by step.NoSpace is = absurd is
+    ends_linked Becomes by step.DiskFault is = ends_stopped_since step.DiskFault is.0 is.1
+    ends_linked Becomes by step.Memory is = ends_stopped_since step.Memory is tt

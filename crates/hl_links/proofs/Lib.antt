@@ -4,3 +4,4 @@ pub mod StoppedCalls
 pub mod LinkedTrees
 pub mod ChangedCalls
 pub mod FoundLinks
+pub mod LinkCharges

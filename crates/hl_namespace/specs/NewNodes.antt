@@ -1,5 +1,5 @@
 -- What is made under a new name.
-use Rattle.std.specs.Prelude.{◌≡◌, ℕ, Bool, true, false, List, [], Option, None}
+use Rattle.std.specs.Prelude.{◌≡◌, ℕ, ◌+◌, Bool, true, false, List, [], Option, None}
 use Rattle.std.specs.FinMap.{get, insert}
 use Rattle.hl_addr.specs.Layout.{quota}
 use Rattle.hl_media.specs.Causes.{Rose}
@@ -18,7 +18,7 @@ use Rattle.hl_store.specs.Finding.{ReadsNodes}
 use Rattle.hl_calls.specs.declared.growth.Growth.{Growth}
 use Rattle.hl_calls.specs.declared.step.FileStep.{FileStep}
 use Rattle.hl_calls.specs.declared.step.FileStep.TheVariants as step
-use Rattle.hl_calls.specs.Growths.{Grows, exceeds}
+use Rattle.hl_calls.specs.Growths.{Grows, directory_charge, exceeds}
 use Rattle.hl_links.specs.declared.changing.DirectoryChange.{DirectoryChange}
 use Rattle.hl_links.specs.Links.{ChangesTree, Relinks}
 
@@ -39,7 +39,10 @@ pub record AddsLink (change : DirectoryChange) (number : ℕ) (node : Node) (bef
   pub free : get between number ≡ None
   pub made : after ≡ insert between number (fresh node.kind node.used)
 
--- what a new node and the directory that names it add to the charge, where the directory had and has so many bytes
+-- what a new node adds to the charge, where the directory that names it had and has so many bytes
+abbrev pub link_growth : ℕ → ℕ → Growth
+link_growth before after = record { added = 1 + directory_charge after; removed = directory_charge before }
+
 module _ {M : Type 0} where
   -- whether a charge that grows so is above the quota
   abbrev pub IsOver : StoreValue M → Growth → Bool → Type 0
