@@ -23,7 +23,7 @@ use Rattle.hl_calls.specs.Calls.{MakesCall, done_by, is_over, needed_by}
 use Rattle.hl_calls.specs.Trees.{OfFiles}
 use Rattle.hl_links.specs.Links.{ChangesOrStops, ChangesTree, KnowsNow, StopsBefore}
 use Rattle.hl_links.proofs.StoppedCalls.{ends_stopped, stops_since}
-use Rattle.hl_links.proofs.LinkedTrees.{lines_both, lines_read, lines_tables, tree_both, tree_read}
+use Rattle.hl_links.proofs.LinkedTrees.{lines_tables, tree_behind}
 
 module _ {M : Type 0} where
   -- the rules accept a call, within the quota and without need of a segment, and leave what the change leaves
@@ -42,7 +42,7 @@ module _ {M : Type 0} where
     lines_tables old new whole.lines,
     λ h told c lies shelf numbered shows knows placed.
         let by = is h told c lies shelf numbered shows knows placed in
-        let behind = whole.tree h told c lies numbered by.after knows.known (numbered, refl, by.becomes) in
+        let behind = whole.tree h told c lies numbered by.after knows.known by.becomes in
         record {
           reply_is = sym (ap numbered_reply by.done);
           within = ap (is_over old numbered) by.done ∙ by.within;
@@ -56,8 +56,8 @@ module _ {M : Type 0} where
         },
   )
     where
-      whole : ChangesTree history old new (λ before after. (between : Numbering PlacedFile) × (between ≡ before) × Becomes between after)
-      whole = tree_both history old mid new (λ before after. after ≡ before) Becomes run (tree_read history old mid run reads) change
+      whole : ChangesTree history old new Becomes
+      whole = tree_behind history old mid new Becomes run reads change
 
   module _ (history : M → Option History) (blocks faults write_faults say_faults : M → ℕ) (old mid new : StoreValue M) (reads : ReadsNodes history old mid) (machine : OnlyReads history blocks faults write_faults say_faults old.log.machine mid.log.machine)
       (more : OnlyReads history blocks faults write_faults say_faults mid.log.machine new.log.machine) (now : ℕ) (call : Call) where

@@ -1,9 +1,11 @@
 -- The nodes that a store knows, through reads and changes one behind another.
-use Rattle.std.proofs.Common.{arith, ◌≡◌, ◌≢◌, ℕ, ◌+◌, ◌/◌, ◌<◌, ◌≤◌, List, [], length, take, Option, Some, None, IsSome, option_map, refl, ap, ◌∙◌, sym, subst}
+use Rattle.std.proofs.Common.{arith, ◌≡◌, ◌≢◌, ℕ, ◌+◌, ◌/◌, ◌<◌, ◌≤◌, List, [], length, take, Option, Some, None, IsSome, option_map, inl, inr, refl, ap, ◌∙◌, sym, subst}
 use Rattle.std.specs.Prelude.{slice_index}
 use Rattle.std.specs.FinMap.{get, insert, remove}
+use Rattle.std.proofs.lemmas.Bool.{cases_eq}
 use Rattle.hl_media.specs.History.{History, MachineState, state_now}
 use Rattle.hl_media.specs.Moments.{Now, Runs}
+use Rattle.hl_media.proofs.Runs.{starts}
 use Rattle.hl_addr.specs.Layout.{Layout}
 use Rattle.hl_log.specs.Logs.{OnlyReads, with_machine}
 use Rattle.hl_log.specs.Rest.{IsUnchanged}
@@ -14,6 +16,7 @@ use Rattle.hl_dir.specs.Dirs.{dir_bytes}
 use Rattle.hl_placed.specs.Blocks.{PlacedFile, blocks_of}
 use Rattle.hl_paths.specs.Nodes.{FlatNode, directory_content, flat_node}
 use Rattle.hl_paths.specs.Numbered.{Directory, Numbering}
+use Rattle.hl_paths.proofs.Nodes.{some_of}
 use Rattle.hl_nodes.specs.Contents.{Contents}
 use Rattle.hl_overlay.specs.declared.draft.NodeDraft.{NodeDraft}
 use Rattle.hl_overlay.specs.declared.draft.Shape.{Shape}
@@ -27,7 +30,7 @@ use Rattle.hl_store.specs.Lying.{LiesOver}
 use Rattle.hl_store.specs.Shapes.{IsNumber}
 use Rattle.hl_store.specs.Finding.{OverNow, ReadsNodes}
 use Rattle.hl_store.specs.Changes.{KeepsBeside, KeepsOtherShapes, Reshapes, drafted_shape}
-use Rattle.hl_store.proofs.ReadRuns.{now_before}
+use Rattle.hl_store.proofs.ReadRuns.{now_before, reads_none}
 use Rattle.hl_ranges.specs.Directories.{HasDirectoryDraft, IsDraftedDirectory, PutsDirectory, directory_node, directory_shape}
 use Rattle.hl_walk.specs.Trees.{AreKnown, known_node}
 use Rattle.hl_walk.proofs.NeverUsed.{never_used}
@@ -162,3 +165,31 @@ module _ {M : Type 0} where
       lines = one.lines;
       tree = λ h told c lies before after known two. one.tree h told c lies before after known (so before after two);
     }
+
+    -- a change behind reads is a change
+    pub tree_behind : (old mid new : StoreValue M) (Becomes : Numbering PlacedFile → Numbering PlacedFile → Type 0) → Runs (history old.log.machine) (history mid.log.machine) IsUnchanged → ReadsNodes history old mid
+        → ChangesTree history mid new Becomes → ChangesTree history old new Becomes
+    tree_behind old mid new Becomes run reads change =
+        tree_so old new (λ before after. (between : Numbering PlacedFile) × (between ≡ before) × Becomes between after) Becomes (λ before after becomes. (before, refl, becomes))
+        (tree_both old mid new (λ before after. after ≡ before) Becomes run (tree_read old mid run reads) change)
+
+  -- THE MACHINE BEHIND A CHANGE is the one before it
+  pub machine_beside : {history : M → Option History} {blocks faults write_faults say_faults : M → ℕ} (old new : StoreValue M) → KeepsBeside old new → OnlyReads history blocks faults write_faults say_faults old.log.machine new.log.machine
+  machine_beside {history} {blocks} {faults} {write_faults} {say_faults} old new beside =
+      subst (λ (v : StoreValue M). OnlyReads history blocks faults write_faults say_faults old.log.machine v.log.machine) (sym beside) (reads_none {M = M})
+
+  pub run_beside : (history : M → Option History) (old new : StoreValue M) → KeepsBeside old new → Runs (history old.log.machine) (history new.log.machine) IsUnchanged
+  run_beside history old new beside = subst (λ (v : StoreValue M). Runs (history old.log.machine) (history v.log.machine) IsUnchanged) (sym beside) (starts (history old.log.machine) IsUnchanged (λ h e. refl))
+
+  -- and so is the site
+  pub number_beside : (old new : StoreValue M) → KeepsBeside old new → (number : ℕ) → IsNumber old number → IsNumber new number
+  number_beside old new beside number is = record { low = is.low; high = subst (λ (v : StoreValue M). number < (layout v).inodes) (sym beside) is.high }
+
+  -- A NUMBER THAT IS DRAFTED is drafted behind the change of a directory
+  pub drafted_behind : (old new : StoreValue M) (ino from : ℕ) (bytes : List ℕ) → PutsDirectory old new ino from bytes → (number : ℕ) → IsNumber old number → IsSome (draft_of old.overlay.drafts number) → IsSome (draft_of new.overlay.drafts number)
+  drafted_behind old new ino from bytes puts number is drafted = elim (cases_eq number ino) as (λ _. IsSome (draft_of new.overlay.drafts number)) [
+    | inl same ↦ subst (λ (n : ℕ). IsSome (draft_of new.overlay.drafts n)) (sym same) (drafted_some new ino (Some (directory_shape (length bytes))) puts.own)
+    | inr ne ↦ elim (some_of (draft_of old.overlay.drafts number) drafted) as (λ _. IsSome (draft_of new.overlay.drafts number)) [
+      | (d, at) ↦ drafted_some new number d.shape (puts.shapes number is.high ne ∙ ap (option_map (λ (e : NodeDraft). e.shape)) at)
+    ]
+  ]
