@@ -15,6 +15,7 @@ use hl_walk::{ParentFound, find_parent};
 use std::alloc::Global;
 
 /// What is renamed: the number, and what it is.
+#[derive(Clone, Copy, Debug, PartialEq, Eq)]
 struct Moving {
     number: u32,
     kind: Kind,
@@ -70,6 +71,7 @@ pub fn rename<M: Machine>(
 }
 
 /// An entry that moves: from a name of one directory to a name of another, or of the same, where a number may stand.
+#[derive(Drop)]
 struct Move<'a> {
     parent: ParentFound,
     name: &'a List<u8>,
