@@ -68,9 +68,6 @@ charge_added change number node before after adds =
     sum after put between before own had has a b c d = omega arith
 
 module _ {M : Type 0} (history : M → Option History) (faults : M → ℕ) (old : StoreValue M) (node : Node) (path : List (List ℕ)) where
-  abbrev call : Call
-  call = making node.kind path
-
   -- a path that is too long, and the root
   module _ (run : Runs (history old.log.machine) (history old.log.machine) IsUnchanged) where
     pub make_refused_long : is_too_long path ≡ true → MakesCall history faults old old node.used (making node.kind path) (step.Done (replies.Refused Enametoolong))
