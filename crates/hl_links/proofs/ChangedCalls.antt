@@ -1,16 +1,14 @@
 -- A call that changed the tree as the rules do is done.
-use Rattle.std.proofs.Common.{◌≡◌, ℕ, false, List, [], Option, Ok, refl, ap, ◌∙◌, sym, subst}
+use Rattle.std.proofs.Common.{◌≡◌, ℕ, false, [], Option, Ok, ap, ◌∙◌, sym, subst}
 use Rattle.hl_media.specs.History.{History}
 use Rattle.hl_media.specs.Moments.{Runs}
 use Rattle.hl_log.specs.Logs.{OnlyReads}
 use Rattle.hl_log.specs.Rest.{IsUnchanged}
 use Rattle.hl_tree.specs.declared.call.Call.{Call}
-use Rattle.hl_tree.specs.declared.call.Reply.{Reply}
 use Rattle.hl_tree.specs.declared.call.Reply.TheVariants as replies
 use Rattle.hl_placed.specs.Blocks.{PlacedFile, Shelf}
-use Rattle.hl_paths.specs.ByNumbers.{NumberedDone, numbered_left, numbered_reply}
+use Rattle.hl_paths.specs.ByNumbers.{numbered_left, numbered_reply}
 use Rattle.hl_paths.specs.Numbered.{Numbering}
-use Rattle.hl_nodes.specs.Contents.{Contents}
 use Rattle.hl_store.specs.Values.{StoreValue}
 use Rattle.hl_store.specs.Finding.{ReadsNodes}
 use Rattle.hl_store.proofs.ReadRuns.{reads_then}
@@ -21,7 +19,7 @@ use Rattle.hl_calls.specs.declared.step.FileStep.{FileStep}
 use Rattle.hl_calls.specs.declared.step.FileStep.TheVariants as step
 use Rattle.hl_calls.specs.Calls.{MakesCall, done_by, is_over, needed_by}
 use Rattle.hl_calls.specs.Trees.{OfFiles}
-use Rattle.hl_links.specs.Links.{ChangesOrStops, ChangesTree, KnowsNow, StopsBefore}
+use Rattle.hl_links.specs.Links.{ChangesOrStops, ChangesTree, StopsBefore}
 use Rattle.hl_links.proofs.StoppedCalls.{ends_stopped, stops_since}
 use Rattle.hl_links.proofs.LinkedTrees.{lines_tables, tree_behind}
 

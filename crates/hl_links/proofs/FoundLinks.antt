@@ -1,5 +1,5 @@
 -- What is found of a path's last name, of the directory in which it stands, and of the node that it names.
-use Rattle.std.proofs.Common.{arith, ◌≡◌, ℕ, ◌-◌, ◌<◌, true, false, nat_eq, List, [], ◌∷◌, ◌++◌, length, get_or, Option, Some, None, Result, Ok, Err, refl, ap, ◌∙◌, sym, subst, inl, inr}
+use Rattle.std.proofs.Common.{arith, ◌≡◌, ℕ, ◌-◌, ◌<◌, true, false, nat_eq, List, [], length, Option, Some, None, Result, Ok, Err, refl, ap, ◌∙◌, sym, subst, inl, inr}
 use Rattle.std.specs.Prelude.{slice_get}
 use Rattle.std.specs.FinMap.{get}
 use Rattle.std.proofs.lemmas.Bool.Decides.{nat_tests}
@@ -24,7 +24,6 @@ use Rattle.hl_paths.proofs.Links.{last_of, none_some}
 use Rattle.hl_nodes.specs.Contents.{Contents}
 use Rattle.hl_store.specs.declared.answers.Node.{Node}
 use Rattle.hl_store.specs.Values.{StoreValue}
-use Rattle.hl_store.specs.Lying.{LiesOver}
 use Rattle.hl_store.specs.Finding.{HasNodeFound, OverNow, ReadsNodes}
 use Rattle.hl_walk.specs.Trees.{KnowsTree, OfTree}
 use Rattle.hl_walk.proofs.KnownTrees.{directory_found, file_found}

@@ -1,16 +1,16 @@
 -- What a directory of other entries is charged, and the tree with it.
-use Rattle.std.proofs.Common.{arith, ◌≡◌, inl, inr, ℕ, ◌+◌, ◌<◌, ◌≤◌, Bool, true, false, ◌&&◌, nat_lt, List, length, Option, Some, Ok, refl, ap, ◌∙◌, sym}
+use Rattle.std.proofs.Common.{arith, ◌≡◌, inl, inr, ℕ, ◌+◌, ◌<◌, ◌≤◌, Bool, true, false, ◌&&◌, nat_lt, List, length, refl, ap, ◌∙◌, sym}
 use Rattle.std.specs.Int.{div_ceil}
-use Rattle.std.specs.FinMap.{get, insert, remove}
+use Rattle.std.specs.FinMap.{insert, remove}
 use Rattle.std.proofs.lemmas.Bool.{cases_lt}
 use Rattle.std.proofs.lemmas.Bool.Decides.{nat_tests}
 use Rattle.hl_dir.specs.Dirs.{dir_bytes}
 use Rattle.hl_placed.specs.Blocks.{PlacedFile}
 use Rattle.hl_paths.specs.Charges.{nodes_charge, numbered_charge}
-use Rattle.hl_paths.specs.Numbered.{Directory, NumberedNode, Numbering}
+use Rattle.hl_paths.specs.Numbered.{Directory, Numbering}
 use Rattle.hl_calls.specs.Growths.{directory_charge, exceeds}
 use Rattle.hl_calls.proofs.ChargeSums.{charge-few, charge-many}
-use Rattle.hl_calls.proofs.Quotas.{nodes_charge-remove, nodes_charge-replaced, number_charge, numbered_charge-directory}
+use Rattle.hl_calls.proofs.Quotas.{nodes_charge-remove, nodes_charge-replaced, numbered_charge-directory}
 use Rattle.hl_links.specs.declared.changing.DirectoryChange.{DirectoryChange}
 use Rattle.hl_links.specs.Links.{Relinks}
 

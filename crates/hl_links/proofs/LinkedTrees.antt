@@ -1,16 +1,15 @@
 -- The nodes that a store knows, through reads and changes one behind another.
-use Rattle.std.proofs.Common.{arith, ◌≡◌, ◌≢◌, ℕ, ◌+◌, ◌/◌, ◌<◌, ◌≤◌, List, [], length, take, Option, Some, None, IsSome, option_map, inl, inr, refl, ap, ◌∙◌, sym, subst}
+use Rattle.std.proofs.Common.{arith, ◌≡◌, ℕ, ◌+◌, ◌/◌, ◌<◌, ◌≤◌, List, length, Option, Some, None, IsSome, option_map, inl, inr, refl, ap, ◌∙◌, sym, subst}
 use Rattle.std.specs.Prelude.{slice_index}
 use Rattle.std.specs.FinMap.{get, insert, remove}
 use Rattle.std.proofs.lemmas.Bool.{cases_eq}
 use Rattle.hl_media.specs.History.{History, MachineState, state_now}
 use Rattle.hl_media.specs.Moments.{Now, Runs}
 use Rattle.hl_media.proofs.Runs.{starts}
-use Rattle.hl_addr.specs.Layout.{Layout}
 use Rattle.hl_log.specs.Logs.{OnlyReads, with_machine}
 use Rattle.hl_log.specs.Rest.{IsUnchanged}
 use Rattle.hl_inode.specs.declared.inode.Kind.{Kind}
-use Rattle.hl_inode.specs.declared.inode.Kind.TheVariants.{Dir, File}
+use Rattle.hl_inode.specs.declared.inode.Kind.TheVariants.{Dir}
 use Rattle.hl_dir.specs.declared.entry.Entry.{Entry}
 use Rattle.hl_dir.specs.Dirs.{dir_bytes}
 use Rattle.hl_placed.specs.Blocks.{PlacedFile, blocks_of}
@@ -22,21 +21,20 @@ use Rattle.hl_overlay.specs.declared.draft.NodeDraft.{NodeDraft}
 use Rattle.hl_overlay.specs.declared.draft.Shape.{Shape}
 use Rattle.hl_overlay.specs.DraftTables.{draft_of}
 use Rattle.hl_overlay.specs.Making.{used_of}
-use Rattle.hl_overlaid.specs.Changes.{KeepsOtherUses, node_used}
-use Rattle.hl_overlaid.specs.NodesNow.{with_node}
+use Rattle.hl_overlaid.specs.Changes.{node_used}
 use Rattle.hl_overlaid.proofs.PutLemmas.{mapped}
 use Rattle.hl_store.specs.Values.{StoreValue, layout, nodes_of}
 use Rattle.hl_store.specs.Lying.{LiesOver}
 use Rattle.hl_store.specs.Shapes.{IsNumber}
-use Rattle.hl_store.specs.Finding.{OverNow, ReadsNodes}
-use Rattle.hl_store.specs.Changes.{KeepsBeside, KeepsOtherShapes, Reshapes, drafted_shape}
+use Rattle.hl_store.specs.Finding.{ReadsNodes}
+use Rattle.hl_store.specs.Changes.{KeepsBeside, Reshapes, drafted_shape}
 use Rattle.hl_store.proofs.ReadRuns.{now_before, reads_none}
-use Rattle.hl_ranges.specs.Directories.{HasDirectoryDraft, IsDraftedDirectory, PutsDirectory, directory_node, directory_shape}
+use Rattle.hl_ranges.specs.Directories.{IsDraftedDirectory, PutsDirectory, directory_node, directory_shape}
 use Rattle.hl_walk.specs.Trees.{AreKnown, known_node}
 use Rattle.hl_walk.proofs.NeverUsed.{never_used}
 use Rattle.hl_calls.specs.Calls.{KeepsTables}
 use Rattle.hl_calls.proofs.Ends.{known_still, now_after}
-use Rattle.hl_calls.proofs.KnownChanges.{KnownBy, known_by, known_insert, known_remove}
+use Rattle.hl_calls.proofs.KnownChanges.{KnownBy, known_insert, known_remove}
 use Rattle.hl_links.specs.declared.changing.DirectoryChange.{DirectoryChange}
 use Rattle.hl_links.specs.Links.{ChangesTree, IsReady, KeepsLines, KnowsNow, Relinks}
 
@@ -189,7 +187,7 @@ module _ {M : Type 0} where
   pub drafted_behind : (old new : StoreValue M) (ino from : ℕ) (bytes : List ℕ) → PutsDirectory old new ino from bytes → (number : ℕ) → IsNumber old number → IsSome (draft_of old.overlay.drafts number) → IsSome (draft_of new.overlay.drafts number)
   drafted_behind old new ino from bytes puts number is drafted = elim (cases_eq number ino) as (λ _. IsSome (draft_of new.overlay.drafts number)) [
     | inl same ↦ subst (λ (n : ℕ). IsSome (draft_of new.overlay.drafts n)) (sym same) (drafted_some new ino (Some (directory_shape (length bytes))) puts.own)
-    | inr ne ↦ elim (some_of (draft_of old.overlay.drafts number) drafted) as (λ _. IsSome (draft_of new.overlay.drafts number)) [
-      | (d, at) ↦ drafted_some new number d.shape (puts.shapes number is.high ne ∙ ap (option_map (λ (e : NodeDraft). e.shape)) at)
-    ]
+    | inr ne ↦
+        let d = some_of (draft_of old.overlay.drafts number) drafted in
+        drafted_some new number d.0.shape (puts.shapes number is.high ne ∙ ap (option_map (λ (e : NodeDraft). e.shape)) d.1)
   ]

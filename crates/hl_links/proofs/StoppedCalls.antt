@@ -1,5 +1,5 @@
 -- How a call ends that stops before its first change.
-use Rattle.std.proofs.Common.{◌≡◌, ℕ, ◌≤◌, Option, Result, Ok, Err}
+use Rattle.std.proofs.Common.{◌≡◌, ℕ, ◌≤◌, Option, Err}
 use Rattle.hl_media.specs.History.{History}
 use Rattle.hl_media.specs.Moments.{Runs}
 use Rattle.hl_log.specs.Rest.{IsUnchanged}
