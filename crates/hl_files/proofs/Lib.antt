@@ -1,0 +1,2 @@
+mod ReleasedCalls
+mod TreeCalls
