@@ -1,4 +1,5 @@
 mod NameExits
+mod StoppedChanges
 mod ShownCalls
 mod RemovalRules
 mod RemovalCalls

@@ -38,6 +38,7 @@ use Rattle.hl_links.proofs.FoundLinks.{Stands, stands_before}
 use Rattle.hl_links.proofs.ChangedCalls.{ends_stopped_since}
 use Rattle.hl_links.proofs.StoppedCalls.{ends_halted}
 use Rattle.hl_namespace.specs.NameCounts.{CountsNames, IsCount}
+use Rattle.hl_namespace.proofs.StoppedChanges.{nothing_run}
 use Rattle.hl_namespace.proofs.NameExits.{list_done, list_file, list_long, list_lost, stat_done, stat_long, stat_lost}
 
 module _ {M : Type 0} (history : M → Option History) where
@@ -50,13 +51,13 @@ module _ {M : Type 0} (history : M → Option History) where
 
   module _ (faults : M → ℕ) (old : StoreValue M) (now : ℕ) (path : List (List ℕ)) where
     -- a path that is too long
-    module _ (run : Runs (history old.log.machine) (history old.log.machine) IsUnchanged) (long : is_too_long path ≡ true) where
+    module _ (long : is_too_long path ≡ true) where
       pub list_refused : MakesCall history faults old old now (calls.List path) (step.Done (replies.Refused Enametoolong))
-      list_refused = ends_refused history old old run (reads_nothing history old) faults now (calls.List path) Enametoolong
+      list_refused = ends_refused history old old (nothing_run (history old.log.machine)) (reads_nothing history old) faults now (calls.List path) Enametoolong
           (λ h told c lies shelf numbered shows knows placed. list_long (site_limits (layout old)) numbered path long)
 
       pub stat_refused : MakesCall history faults old old now (calls.Stat path) (step.Done (replies.Refused Enametoolong))
-      stat_refused = ends_refused history old old run (reads_nothing history old) faults now (calls.Stat path) Enametoolong
+      stat_refused = ends_refused history old old (nothing_run (history old.log.machine)) (reads_nothing history old) faults now (calls.Stat path) Enametoolong
           (λ h told c lies shelf numbered shows knows placed. stat_long (site_limits (layout old)) shelf numbered now path long)
 
     module _ (short : is_too_long path ≡ false) where
