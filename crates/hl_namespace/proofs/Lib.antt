@@ -1,4 +1,5 @@
 mod NameExits
+mod FoundNames
 mod StoppedChanges
 mod ShownCalls
 mod RemovalRules
