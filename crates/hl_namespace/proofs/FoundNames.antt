@@ -1,6 +1,5 @@
 -- What a search of a directory's bytes tells of a name in its entries.
 use Rattle.std.proofs.Common.{◌≡◌, ℕ, Bool, List, Option, Some, None, option_map, is_some, refl, ap, ◌∙◌, sym, subst}
-use Rattle.hl_dir.specs.declared.entry.Entry.{Entry}
 use Rattle.hl_dir.specs.Dirs.{Spells}
 use Rattle.hl_paths.specs.Entries.{entry_number}
 use Rattle.hl_entries.specs.declared.place.EntryPlace.{EntryPlace}

@@ -1,14 +1,12 @@
 -- How a call ends that makes a node.
-use Rattle.std.proofs.Common.{arith, ◌≡◌, ◌≢◌, ℕ, ◌+◌, ◌-◌, ◌≤◌, Bool, true, false, nat_eq, List, [], length, take, Option, Some, None, Ok, Err, is_some, refl, ap, ◌∙◌, sym, subst}
+use Rattle.std.proofs.Common.{arith, ◌≡◌, ℕ, ◌+◌, ◌-◌, Bool, true, false, nat_eq, List, length, take, Option, Some, None, Ok, is_some, refl, ap, ◌∙◌, sym, subst}
 use Rattle.std.specs.FinMap.{get, insert}
 use Rattle.hl_media.specs.History.{History, state_now}
 use Rattle.hl_media.specs.Moments.{Runs}
 use Rattle.hl_addr.specs.Layout.{Layout, quota}
 use Rattle.hl_log.specs.Logs.{OnlyReads}
 use Rattle.hl_log.specs.Rest.{IsUnchanged}
-use Rattle.hl_tree.specs.declared.call.Call.{Call}
 use Rattle.hl_tree.specs.declared.call.Reply.TheVariants as replies
-use Rattle.hl_tree.specs.declared.call.Refusal.{Refusal}
 use Rattle.hl_tree.specs.declared.call.Refusal.TheVariants.{Eexist, Einodes, Enametoolong}
 use Rattle.hl_tree.specs.Names.{is_too_long}
 use Rattle.hl_dir.specs.declared.entry.Entry.{Entry}
@@ -45,11 +43,10 @@ use Rattle.hl_calls.proofs.Ends.{ends_refused, ends_without_space, known_still}
 use Rattle.hl_calls.proofs.KnownChanges.{insert_other}
 use Rattle.hl_calls.proofs.Quotas.{is_over_quota-taken, nodes_charge-new, tally_charge-known}
 use Rattle.hl_links.specs.declared.changing.DirectoryChange.{DirectoryChange}
-use Rattle.hl_links.specs.Links.{Relinks}
 use Rattle.hl_links.proofs.FoundLinks.{parent_there}
 use Rattle.hl_links.proofs.LinkCharges.{charge_relinked}
 use Rattle.hl_links.proofs.StoppedCalls.{ends_halted}
-use Rattle.hl_links.proofs.ChangedCalls.{IsByRules, ends_changed, ends_stopped_since}
+use Rattle.hl_links.proofs.ChangedCalls.{ends_changed, ends_stopped_since}
 use Rattle.hl_namespace.specs.NewNodes.{AddsLink, AddsOrStops, IsOver, fresh, link_growth, making}
 use Rattle.hl_namespace.proofs.NameExits.{make_done, make_full, make_long, make_lost, make_root, make_there}
 use Rattle.hl_namespace.proofs.StoppedChanges.{nothing_run}

@@ -1,5 +1,5 @@
 -- How a call ends that takes a node away.
-use Rattle.std.proofs.Common.{arith, ◌≡◌, ℕ, ◌+◌, ◌≤◌, true, false, nat_eq, List, [], length, take, Option, Some, None, Ok, Err, refl, ap, ◌∙◌, sym, subst}
+use Rattle.std.proofs.Common.{arith, ◌≡◌, ℕ, ◌≤◌, true, false, nat_eq, List, length, take, Option, Some, None, Ok, refl, ap, ◌∙◌, sym, subst}
 use Rattle.std.specs.FinMap.{get, insert, remove}
 use Rattle.hl_media.specs.History.{History}
 use Rattle.hl_media.specs.Moments.{Runs}
@@ -31,8 +31,7 @@ use Rattle.hl_walk.specs.Walks.{Halts, HasNoParent, HasParent}
 use Rattle.hl_walk.proofs.KeptTrees.{reads_nothing}
 use Rattle.hl_calls.specs.declared.step.FileStep.{FileStep}
 use Rattle.hl_calls.specs.declared.step.FileStep.TheVariants as step
-use Rattle.hl_calls.specs.Growths.{directory_charge, exceeds}
-use Rattle.hl_calls.specs.Calls.{MakesCall, halted_step, is_over}
+use Rattle.hl_calls.specs.Calls.{MakesCall, halted_step}
 use Rattle.hl_calls.specs.Trees.{site_limits}
 use Rattle.hl_calls.proofs.Ends.{ends_refused}
 use Rattle.hl_calls.proofs.Quotas.{is_over_quota-taken}

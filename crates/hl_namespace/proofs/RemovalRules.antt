@@ -1,5 +1,5 @@
 -- The rules of taking away, by the kind of what is taken.
-use Rattle.std.proofs.Common.{arith, ◌≡◌, ℕ, ◌+◌, ◌<◌, ◌≤◌, true, false, nat_eq, List, [], ◌∷◌, ◌++◌, length, Option, Some, None, Result, Ok, Err, refl, ap, ◌∙◌, sym, subst, length-append}
+use Rattle.std.proofs.Common.{arith, ◌≡◌, ℕ, ◌<◌, true, false, nat_eq, List, [], ◌∷◌, ◌++◌, length, Some, None, Ok, Err, refl, ap, ◌∙◌, sym, length-append}
 use Rattle.std.specs.Prelude.{if◌then◌else◌, Bool}
 use Rattle.std.specs.FinMap.{get}
 use Rattle.std.proofs.lemmas.Bool.Decides.{nat_tests}
@@ -17,7 +17,7 @@ use Rattle.hl_placed.specs.Blocks.{PlacedFile, Shelf}
 use Rattle.hl_paths.specs.ByNumbers.{NumberedDone, by_numbers, gone, needed}
 use Rattle.hl_paths.specs.Entries.{entry_number}
 use Rattle.hl_paths.specs.Finding.{find_parent, last_name, parent_with}
-use Rattle.hl_paths.specs.Numbered.{Directory, Leaf, Numbering}
+use Rattle.hl_paths.specs.Numbered.{Numbering}
 use Rattle.hl_paths.proofs.Links.{none_some, true_false}
 use Rattle.hl_links.specs.Links.{why_kept}
 use Rattle.hl_links.proofs.FoundLinks.{Stands}

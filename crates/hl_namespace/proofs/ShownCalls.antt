@@ -1,13 +1,12 @@
 -- Calls that show what stands at a path.
-use Rattle.std.proofs.Common.{◌≡◌, ℕ, true, false, List, [], length, Option, Some, None, Ok, Err, refl, ap, ◌∙◌, sym, subst}
+use Rattle.std.proofs.Common.{◌≡◌, ℕ, true, false, List, length, Option, Some, Ok, refl, ap, ◌∙◌, sym, subst}
 use Rattle.std.specs.FinMap.{get}
 use Rattle.hl_media.specs.History.{History, state_now}
 use Rattle.hl_media.specs.Moments.{Runs}
 use Rattle.hl_log.specs.Logs.{OnlyReads}
 use Rattle.hl_log.specs.Rest.{IsUnchanged}
-use Rattle.hl_inode.specs.declared.inode.Kind.TheVariants.{Dir, File}
+use Rattle.hl_inode.specs.declared.inode.Kind.TheVariants.{File}
 use Rattle.hl_tree.specs.declared.call.Call.TheVariants as calls
-use Rattle.hl_tree.specs.declared.call.Reply.{Reply}
 use Rattle.hl_tree.specs.declared.call.Reply.TheVariants as replies
 use Rattle.hl_tree.specs.declared.call.Refusal.TheVariants.{Enametoolong, Enotdir}
 use Rattle.hl_tree.specs.Names.{is_too_long}
@@ -15,15 +14,13 @@ use Rattle.hl_dir.specs.declared.entry.Entry.{Entry}
 use Rattle.hl_placed.specs.Blocks.{PlacedFile}
 use Rattle.hl_paths.specs.ByNumbers.{numbered_status}
 use Rattle.hl_paths.specs.Entries.{entry_names}
-use Rattle.hl_paths.specs.Finding.{find_number}
-use Rattle.hl_paths.specs.Numbered.{Directory, Leaf, Numbering}
+use Rattle.hl_paths.specs.Numbered.{Directory, Leaf}
 use Rattle.hl_entries.specs.Places.{IfSpells}
 use Rattle.hl_store.specs.declared.answers.Node.{Node}
 use Rattle.hl_store.specs.Values.{StoreValue, layout}
 use Rattle.hl_store.specs.Finding.{HasNodeFound, OverNow, ReadsNodes}
-use Rattle.hl_store.proofs.ReadRuns.{reads_then, rose_since}
+use Rattle.hl_store.proofs.ReadRuns.{reads_then}
 use Rattle.hl_ranges.specs.Directories.{HasDirectory, HasKind}
-use Rattle.hl_walk.specs.Trees.{OfTree}
 use Rattle.hl_walk.specs.Walks.{LeadsNowhere, LeadsTo}
 use Rattle.hl_walk.specs.declared.walk.Halt.{Halt}
 use Rattle.hl_walk.specs.Walks.{Halts}

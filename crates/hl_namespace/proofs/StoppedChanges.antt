@@ -1,5 +1,5 @@
 -- Changes that stop behind reads, before they begin.
-use Rattle.std.proofs.Common.{◌≡◌, ℕ, Option, refl}
+use Rattle.std.proofs.Common.{ℕ, Option, refl}
 use Rattle.hl_media.specs.History.{History}
 use Rattle.hl_media.specs.Moments.{Runs}
 use Rattle.hl_media.proofs.Runs.{starts}

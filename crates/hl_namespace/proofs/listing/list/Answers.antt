@@ -1,4 +1,4 @@
-use Rattle.std.proofs.Common.{◌≡◌, true, false, refl, ap, ◌∙◌, sym, subst}
+use Rattle.std.proofs.Common.{◌≡◌, true, false, ap, ◌∙◌, sym, subst}
 use Rattle.hl_tree.specs.declared.call.Call.TheVariants as calls
 use Rattle.hl_tree.specs.Names.{is_too_long}
 use Rattle.hl_paths.specs.Entries.{entry_names}

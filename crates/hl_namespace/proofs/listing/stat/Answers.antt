@@ -1,12 +1,9 @@
-use Rattle.std.proofs.Common.{◌≡◌, true, false, refl, ap, ◌∙◌, sym, subst}
+use Rattle.std.proofs.Common.{◌≡◌, true, false, ap, ◌∙◌, sym, subst}
 use Rattle.hl_tree.specs.declared.call.Call.TheVariants as calls
 use Rattle.hl_tree.specs.Names.{is_too_long}
-use Rattle.hl_paths.specs.Entries.{entry_names}
-use Rattle.hl_entries.specs.Places.{IfSpells}
 use Rattle.hl_store.proofs.ReadRuns.{reads_then}
 use Rattle.hl_walk.specs.Walks.{Halts, LeadsNowhere, LeadsTo}
 use Rattle.hl_walk.proofs.KeptTrees.{reads_both}
-use Rattle.hl_calls.specs.declared.step.FileStep.TheVariants as step
 use Rattle.hl_calls.specs.Calls.{MakesCall}
 use Rattle.hl_links.proofs.ChangedCalls.{ends_stopped_since}
 use Rattle.hl_namespace.proofs.ShownCalls.{stat_halted, stat_of_file, stat_of_names, stat_refused}
