@@ -1,4 +1,6 @@
 mod NameExits
+mod FoundNames
+mod StoppedChanges
 mod ShownCalls
 mod RemovalRules
 mod RemovalCalls

@@ -1,14 +1,12 @@
 -- How a call ends that makes a node.
-use Rattle.std.proofs.Common.{arith, ◌≡◌, ◌≢◌, ℕ, ◌+◌, ◌-◌, ◌≤◌, Bool, true, false, nat_eq, List, [], length, take, Option, Some, None, Ok, Err, is_some, refl, ap, ◌∙◌, sym, subst}
+use Rattle.std.proofs.Common.{arith, ◌≡◌, ℕ, ◌+◌, ◌-◌, Bool, true, false, nat_eq, List, length, take, Option, Some, None, Ok, is_some, refl, ap, ◌∙◌, sym, subst}
 use Rattle.std.specs.FinMap.{get, insert}
 use Rattle.hl_media.specs.History.{History, state_now}
 use Rattle.hl_media.specs.Moments.{Runs}
 use Rattle.hl_addr.specs.Layout.{Layout, quota}
 use Rattle.hl_log.specs.Logs.{OnlyReads}
 use Rattle.hl_log.specs.Rest.{IsUnchanged}
-use Rattle.hl_tree.specs.declared.call.Call.{Call}
 use Rattle.hl_tree.specs.declared.call.Reply.TheVariants as replies
-use Rattle.hl_tree.specs.declared.call.Refusal.{Refusal}
 use Rattle.hl_tree.specs.declared.call.Refusal.TheVariants.{Eexist, Einodes, Enametoolong}
 use Rattle.hl_tree.specs.Names.{is_too_long}
 use Rattle.hl_dir.specs.declared.entry.Entry.{Entry}
@@ -37,20 +35,21 @@ use Rattle.hl_walk.specs.Walks.{Halts, HasNoParent, HasParent}
 use Rattle.hl_walk.proofs.KeptTrees.{layout_kept, reads_both, reads_nothing}
 use Rattle.hl_calls.specs.declared.step.FileStep.{FileStep}
 use Rattle.hl_calls.specs.declared.step.FileStep.TheVariants as step
-use Rattle.hl_calls.specs.Growths.{directory_charge, exceeds}
+use Rattle.hl_calls.specs.declared.growth.Growth.{Growth}
+use Rattle.hl_calls.specs.Growths.{Grows, directory_charge, exceeds}
 use Rattle.hl_calls.specs.Calls.{MakesCall, done_by, halted_step, is_over}
 use Rattle.hl_calls.specs.Trees.{site_limits}
 use Rattle.hl_calls.proofs.Ends.{ends_refused, ends_without_space, known_still}
 use Rattle.hl_calls.proofs.KnownChanges.{insert_other}
 use Rattle.hl_calls.proofs.Quotas.{is_over_quota-taken, nodes_charge-new, tally_charge-known}
 use Rattle.hl_links.specs.declared.changing.DirectoryChange.{DirectoryChange}
-use Rattle.hl_links.specs.Links.{Relinks}
 use Rattle.hl_links.proofs.FoundLinks.{parent_there}
 use Rattle.hl_links.proofs.LinkCharges.{charge_relinked}
 use Rattle.hl_links.proofs.StoppedCalls.{ends_halted}
-use Rattle.hl_links.proofs.ChangedCalls.{IsByRules, ends_changed, ends_stopped_since}
+use Rattle.hl_links.proofs.ChangedCalls.{ends_changed, ends_stopped_since}
 use Rattle.hl_namespace.specs.NewNodes.{AddsLink, AddsOrStops, IsOver, fresh, link_growth, making}
 use Rattle.hl_namespace.proofs.NameExits.{make_done, make_full, make_long, make_lost, make_root, make_there}
+use Rattle.hl_namespace.proofs.StoppedChanges.{nothing_run}
 use Rattle.hl_namespace.proofs.NewNodeRules.{charge_fresh, free_told, made_is, make_needs, none_told}
 
 -- THE CHARGE grows by that of the new node and of the directory's bytes
@@ -67,16 +66,20 @@ charge_added change number node before after adds =
     sum : (after put between before own had has : ℕ) → after ≡ put → put ≡ between + own → own ≡ 1 → between + had ≡ before + has → after + had ≡ before + (1 + has)
     sum after put between before own had has a b c d = omega arith
 
+-- whether a charge is over the quota is asked of what the node adds
+pub over_asked : {M : Type 0} (v : StoreValue M) (growth wanted : Growth) → growth ≡ wanted → (answer over : Bool) → answer ≡ over
+    → ((after : ℕ) → Grows growth v.tally.charge after → answer ≡ exceeds (quota (layout v)) v.tally.charge after) → IsOver v wanted over
+over_asked v growth wanted is answer over test asked after grows = sym test ∙ asked after (subst (λ g. Grows g v.tally.charge after) (sym is) grows)
+
 module _ {M : Type 0} (history : M → Option History) (faults : M → ℕ) (old : StoreValue M) (node : Node) (path : List (List ℕ)) where
   -- a path that is too long, and the root
-  module _ (run : Runs (history old.log.machine) (history old.log.machine) IsUnchanged) where
-    pub make_refused_long : is_too_long path ≡ true → MakesCall history faults old old node.used (making node.kind path) (step.Done (replies.Refused Enametoolong))
-    make_refused_long long = ends_refused history old old run (reads_nothing history old) faults node.used (making node.kind path) Enametoolong
-        (λ h told c lies shelf numbered shows knows placed. made_is (site_limits (layout old)) shelf numbered node.used path node.kind ∙ make_long (site_limits (layout old)) numbered path (fresh node.kind node.used) long)
+  pub make_refused_long : is_too_long path ≡ true → MakesCall history faults old old node.used (making node.kind path) (step.Done (replies.Refused Enametoolong))
+  make_refused_long long = ends_refused history old old (nothing_run (history old.log.machine)) (reads_nothing history old) faults node.used (making node.kind path) Enametoolong
+      (λ h told c lies shelf numbered shows knows placed. made_is (site_limits (layout old)) shelf numbered node.used path node.kind ∙ make_long (site_limits (layout old)) numbered path (fresh node.kind node.used) long)
 
-    pub make_refused_root : is_too_long path ≡ false → nat_eq (length path) 0 ≡ true → MakesCall history faults old old node.used (making node.kind path) (step.Done (replies.Refused Eexist))
-    make_refused_root short root = ends_refused history old old run (reads_nothing history old) faults node.used (making node.kind path) Eexist
-        (λ h told c lies shelf numbered shows knows placed. made_is (site_limits (layout old)) shelf numbered node.used path node.kind ∙ make_root (site_limits (layout old)) numbered path (fresh node.kind node.used) short root)
+  pub make_refused_root : is_too_long path ≡ false → nat_eq (length path) 0 ≡ true → MakesCall history faults old old node.used (making node.kind path) (step.Done (replies.Refused Eexist))
+  make_refused_root short root = ends_refused history old old (nothing_run (history old.log.machine)) (reads_nothing history old) faults node.used (making node.kind path) Eexist
+      (λ h told c lies shelf numbered shows knows placed. made_is (site_limits (layout old)) shelf numbered node.used path node.kind ∙ make_root (site_limits (layout old)) numbered path (fresh node.kind node.used) short root)
 
   module _ (short : is_too_long path ≡ false) (some : nat_eq (length path) 0 ≡ false) (mid : StoreValue M) (run : Runs (history old.log.machine) (history mid.log.machine) IsUnchanged) (reads : ReadsNodes history old mid) where
     -- one that leads to no parent
@@ -144,6 +147,7 @@ module _ {M : Type 0} (history : M → Option History) (faults : M → ℕ) (old
           over : (b : Bool) → IsOver mid (link_growth (length parent.bytes.items) (length change.bytes.items)) b → (h : History) → history old.log.machine ≡ Some h → (c : Contents) → LiesOver old c (state_now h)
               → (numbered : Numbering PlacedFile) → KnowsTree old c numbered → (es : List Entry) → Spells parent.bytes.items es → find_parent numbered path ≡ Ok (parent_with parent.number es) → get numbered number ≡ None
               → is_over old numbered (Ok (replies.Ok, left numbered es)) ≡ b
+          unfolding adds directory_charge
           over b asked h told c lies numbered knows es spells led free =
               let charge = tally_charge-known mid c (state_now h) (reads.keeps h told c lies).over numbered (known_still history old mid run reads h told c lies numbered knows.known) in
               let grown = charge_added change number node numbered (left numbered es) (adds numbered es spells led free) in

@@ -1,6 +1,6 @@
 -- The rules of making, by the kind of what is made.
-use Rattle.std.proofs.Common.{◌≡◌, ℕ, ◌+◌, ◌-◌, ◌<◌, ◌≤◌, Bool, true, false, List, [], Option, Some, None, option_map, is_some, refl, ap, ◌∙◌, sym, subst}
-use Rattle.std.specs.Prelude.{slice_index, slice_index_or}
+use Rattle.std.proofs.Common.{◌≡◌, ℕ, ◌-◌, ◌<◌, ◌≤◌, true, List, [], Option, Some, None, option_map, is_some, refl, ap, ◌∙◌, sym}
+use Rattle.std.specs.Prelude.{slice_index_or}
 use Rattle.std.specs.FinMap.{get}
 use Rattle.hl_media.specs.History.{MachineState}
 use Rattle.hl_inode.specs.declared.inode.Kind.{Kind}
@@ -8,13 +8,12 @@ use Rattle.hl_inode.specs.declared.inode.Kind.TheVariants.{Dir, File}
 use Rattle.hl_tree.specs.declared.call.Limits.{Limits}
 use Rattle.hl_dir.specs.Dirs.{dir_bytes}
 use Rattle.hl_placed.specs.Blocks.{PlacedFile, Shelf, blocks_of}
-use Rattle.hl_paths.specs.ByNumbers.{NumberedDone, by_numbers, make_by_numbers, needed}
+use Rattle.hl_paths.specs.ByNumbers.{by_numbers, make_by_numbers, needed}
 use Rattle.hl_paths.specs.Charges.{numbered_charge}
 use Rattle.hl_paths.specs.Free.{lowest_free}
-use Rattle.hl_paths.specs.Nodes.{FlatNode, directory_content, flat_node}
-use Rattle.hl_paths.specs.Numbered.{NumberedNode, Numbering}
+use Rattle.hl_paths.specs.Nodes.{directory_content, flat_node}
+use Rattle.hl_paths.specs.Numbered.{Numbering}
 use Rattle.hl_nodes.specs.Contents.{Contents}
-use Rattle.hl_overlay.specs.declared.draft.Shape.{Shape}
 use Rattle.hl_overlaid.specs.Changes.{node_used, reshaped}
 use Rattle.hl_store.specs.Numbers.{AreAllUsed, IsLowestFree}
 use Rattle.hl_store.specs.Values.{StoreValue, layout, nodes_of}

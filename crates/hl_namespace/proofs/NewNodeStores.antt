@@ -1,27 +1,25 @@
 -- The store in which a number that was free has a node of no bytes.
-use Rattle.std.proofs.Common.{◌≡◌, ◌≢◌, ℕ, ◌<◌, List, length, Option, Some, None, IsSome, option_map, inl, inr, refl, ap, ◌∙◌, sym, subst}
+use Rattle.std.proofs.Common.{◌≡◌, ◌≢◌, ℕ, List, Option, Some, None, option_map, ap, ◌∙◌, sym, subst}
 use Rattle.std.specs.Prelude.{slice_index, slice_set}
 use Rattle.std.specs.FinMap.{get, insert}
 use Rattle.std.specs.Option.{ForSome}
 use Rattle.std.proofs.lemmas.List.{get_or-set_other}
-use Rattle.std.proofs.lemmas.Bool.{cases_eq}
 use Rattle.hl_media.specs.History.{History, MachineState}
 use Rattle.hl_media.specs.Moments.{Runs}
 use Rattle.hl_log.specs.Rest.{IsUnchanged}
 use Rattle.hl_inode.specs.declared.inode.Kind.{Kind}
 use Rattle.hl_placed.specs.Blocks.{PlacedFile}
-use Rattle.hl_paths.specs.Nodes.{FlatNode, flat_node}
+use Rattle.hl_paths.specs.Nodes.{flat_node}
 use Rattle.hl_paths.specs.Numbered.{Numbering}
 use Rattle.hl_paths.proofs.Links.{none_some}
 use Rattle.hl_nodes.specs.Contents.{Contents}
 use Rattle.hl_overlay.specs.declared.draft.NodeDraft.{NodeDraft}
 use Rattle.hl_overlay.specs.declared.draft.Shape.{Shape}
-use Rattle.hl_overlay.specs.DraftTables.{draft_of}
 use Rattle.hl_overlaid.specs.Changes.{KeepsOtherUses, node_used, reshaped}
 use Rattle.hl_overlaid.specs.NodesNow.{with_node}
-use Rattle.hl_overlaid.proofs.PutLemmas.{mapped, mapped_none}
+use Rattle.hl_overlaid.proofs.PutLemmas.{mapped_none}
 use Rattle.hl_store.specs.declared.answers.Node.{Node}
-use Rattle.hl_store.specs.Values.{StoreValue, layout, nodes_of}
+use Rattle.hl_store.specs.Values.{StoreValue, nodes_of}
 use Rattle.hl_store.specs.Lying.{LiesOver}
 use Rattle.hl_store.specs.Shapes.{IsNumber}
 use Rattle.hl_store.specs.Finding.{ReadsNodes}

@@ -1,5 +1,5 @@
 -- How a call ends that takes a node away.
-use Rattle.std.proofs.Common.{arith, ◌≡◌, ℕ, ◌+◌, ◌≤◌, true, false, nat_eq, List, [], length, take, Option, Some, None, Ok, Err, refl, ap, ◌∙◌, sym, subst}
+use Rattle.std.proofs.Common.{arith, ◌≡◌, ℕ, ◌≤◌, true, false, nat_eq, List, length, take, Option, Some, None, Ok, refl, ap, ◌∙◌, sym, subst}
 use Rattle.std.specs.FinMap.{get, insert, remove}
 use Rattle.hl_media.specs.History.{History}
 use Rattle.hl_media.specs.Moments.{Runs}
@@ -23,24 +23,27 @@ use Rattle.hl_entries.specs.Places.{Become, IfSpells}
 use Rattle.hl_store.specs.declared.answers.Node.{Node}
 use Rattle.hl_store.specs.Values.{StoreValue, layout}
 use Rattle.hl_store.specs.Finding.{HasNodeFound, OverNow, ReadsNodes}
+use Rattle.hl_store.specs.Changes.{Reshapes}
+use Rattle.hl_ranges.specs.Directories.{PutsDirectory}
 use Rattle.hl_walk.specs.declared.walk.Halt.{Halt}
 use Rattle.hl_walk.specs.declared.walk.ParentFound.{ParentFound}
 use Rattle.hl_walk.specs.Walks.{Halts, HasNoParent, HasParent}
 use Rattle.hl_walk.proofs.KeptTrees.{reads_nothing}
 use Rattle.hl_calls.specs.declared.step.FileStep.{FileStep}
 use Rattle.hl_calls.specs.declared.step.FileStep.TheVariants as step
-use Rattle.hl_calls.specs.Growths.{directory_charge, exceeds}
-use Rattle.hl_calls.specs.Calls.{MakesCall, halted_step, is_over}
+use Rattle.hl_calls.specs.Calls.{MakesCall, halted_step}
 use Rattle.hl_calls.specs.Trees.{site_limits}
 use Rattle.hl_calls.proofs.Ends.{ends_refused}
 use Rattle.hl_calls.proofs.Quotas.{is_over_quota-taken}
 use Rattle.hl_links.specs.declared.changing.DirectoryChange.{DirectoryChange}
-use Rattle.hl_links.specs.Links.{ChangesOrStops, Relinks, why_kept}
+use Rattle.hl_links.specs.Links.{ChangesOrStops, ChangesTree, Relinks, why_kept}
+use Rattle.hl_links.proofs.LinkedTrees.{run_beside, tree_behind, tree_both, tree_freed, tree_put, tree_so}
 use Rattle.hl_links.proofs.FoundLinks.{Stands, parent_there, stands_before}
 use Rattle.hl_links.proofs.LinkCharges.{charge_freed, charge_less, charge_relinked, exceeds_less}
 use Rattle.hl_links.proofs.StoppedCalls.{ends_halted}
 use Rattle.hl_links.proofs.ChangedCalls.{IsByRules, ends_linked}
 use Rattle.hl_namespace.specs.Removals.{Unlinks, removal, root_kept}
+use Rattle.hl_namespace.proofs.StoppedChanges.{nothing_run}
 use Rattle.hl_namespace.proofs.RemovalRules.{take_absent, take_done, take_kept, take_long, take_lost, take_needs, take_root}
 
 -- THE CHARGE doesn't grow where a directory has no more bytes and a number goes
@@ -54,14 +57,13 @@ charge_unlinked change number before after goes le =
 
 module _ {M : Type 0} (history : M → Option History) (faults : M → ℕ) (old : StoreValue M) (now : ℕ) (kind : Kind) (path : List (List ℕ)) where
   -- a path that is too long, and the root
-  module _ (run : Runs (history old.log.machine) (history old.log.machine) IsUnchanged) where
-    pub take_refused_long : is_too_long path ≡ true → MakesCall history faults old old now (removal kind path) (step.Done (replies.Refused Enametoolong))
-    take_refused_long long = ends_refused history old old run (reads_nothing history old) faults now (removal kind path) Enametoolong
-        (λ h told c lies shelf numbered shows knows placed. take_long (site_limits (layout old)) shelf numbered now path kind long)
+  pub take_refused_long : is_too_long path ≡ true → MakesCall history faults old old now (removal kind path) (step.Done (replies.Refused Enametoolong))
+  take_refused_long long = ends_refused history old old (nothing_run (history old.log.machine)) (reads_nothing history old) faults now (removal kind path) Enametoolong
+      (λ h told c lies shelf numbered shows knows placed. take_long (site_limits (layout old)) shelf numbered now path kind long)
 
-    pub take_refused_root : is_too_long path ≡ false → nat_eq (length path) 0 ≡ true → MakesCall history faults old old now (removal kind path) (step.Done (replies.Refused (root_kept kind)))
-    take_refused_root short root = ends_refused history old old run (reads_nothing history old) faults now (removal kind path) (root_kept kind)
-        (λ h told c lies shelf numbered shows knows placed. take_root (site_limits (layout old)) shelf numbered now path short kind root)
+  pub take_refused_root : is_too_long path ≡ false → nat_eq (length path) 0 ≡ true → MakesCall history faults old old now (removal kind path) (step.Done (replies.Refused (root_kept kind)))
+  take_refused_root short root = ends_refused history old old (nothing_run (history old.log.machine)) (reads_nothing history old) faults now (removal kind path) (root_kept kind)
+      (λ h told c lies shelf numbered shows knows placed. take_root (site_limits (layout old)) shelf numbered now path short kind root)
 
   module _ (short : is_too_long path ≡ false) (some : nat_eq (length path) 0 ≡ false) where
     -- one that leads to no parent
@@ -110,6 +112,7 @@ module _ {M : Type 0} (history : M → Option History) (faults : M → ℕ) (old
 
           by_rules : (shelf : Shelf) (numbered : Numbering PlacedFile) (es : List Entry) → Spells parent.bytes.items es → find_parent numbered path ≡ Ok (parent_with parent.number es)
               → Stands node.kind node.size (get numbered child) → IsByRules old now (removal kind path) (Unlinks change child) shelf numbered
+          unfolding unlinks
           by_rules shelf numbered es spells led stands = record {
             after = gone (site_limits (layout old)) numbered (parent_with parent.number es) (last_name path) child;
             done = take_done (site_limits (layout old)) shelf numbered now path short some parent.number es led child (sym (there es spells)) kind node.kind node.size stands goes;
@@ -127,3 +130,13 @@ module _ {M : Type 0} (history : M → Option History) (faults : M → ℕ) (old
                 (λ h told c lies shelf numbered shows knows placed.
                 let p = has.is h told c lies numbered knows in
                 by_rules shelf numbered p.0 p.1 p.2 (stands_before history old mid reads run child node found h told c lies numbered knows)) stop ends
+
+module _ {M : Type 0} (history : M → Option History) where
+  -- A DIRECTORY IS PUT behind reads, and then the number that it named is freed
+  pub tree_unlinked : (old mid put new : StoreValue M) (change : DirectoryChange) (number used : ℕ) → Runs (history old.log.machine) (history mid.log.machine) IsUnchanged → ReadsNodes history old mid
+      → PutsDirectory mid put change.number change.from change.bytes.items → Reshapes put new number used None → new.uses ≡ put.uses → ChangesTree history old new (Unlinks change number)
+  tree_unlinked old mid put new change number used run reads puts shapes uses =
+      tree_so history old new (λ before after. (between : Numbering PlacedFile) × Relinks change before between × (after ≡ remove between number)) (Unlinks change number)
+      (λ before after goes. (goes.between, goes.relinks, goes.freed))
+      (tree_behind history old mid new (λ before after. (between : Numbering PlacedFile) × Relinks change before between × (after ≡ remove between number)) run reads
+      (tree_both history mid put new (Relinks change) (λ before after. after ≡ remove before number) (run_beside history mid put puts.beside) (tree_put history mid put change puts) (tree_freed history put new number used shapes uses)))

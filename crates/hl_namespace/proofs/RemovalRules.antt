@@ -1,7 +1,8 @@
 -- The rules of taking away, by the kind of what is taken.
-use Rattle.std.proofs.Common.{arith, ◌≡◌, ℕ, ◌+◌, ◌≤◌, true, false, nat_eq, List, [], ◌∷◌, ◌++◌, length, Option, Some, None, Result, Ok, Err, refl, ap, ◌∙◌, sym, subst, length-append}
+use Rattle.std.proofs.Common.{arith, ◌≡◌, ℕ, ◌<◌, true, false, nat_eq, List, [], ◌∷◌, ◌++◌, length, Some, None, Ok, Err, refl, ap, ◌∙◌, sym, length-append}
 use Rattle.std.specs.Prelude.{if◌then◌else◌, Bool}
 use Rattle.std.specs.FinMap.{get}
+use Rattle.std.proofs.lemmas.Bool.Decides.{nat_tests}
 use Rattle.hl_bytes.specs.Fields.{le32}
 use Rattle.hl_inode.specs.declared.inode.Kind.{Kind}
 use Rattle.hl_inode.specs.declared.inode.Kind.TheVariants.{Dir, File}
@@ -16,7 +17,7 @@ use Rattle.hl_placed.specs.Blocks.{PlacedFile, Shelf}
 use Rattle.hl_paths.specs.ByNumbers.{NumberedDone, by_numbers, gone, needed}
 use Rattle.hl_paths.specs.Entries.{entry_number}
 use Rattle.hl_paths.specs.Finding.{find_parent, last_name, parent_with}
-use Rattle.hl_paths.specs.Numbered.{Directory, Leaf, Numbering}
+use Rattle.hl_paths.specs.Numbered.{Numbering}
 use Rattle.hl_paths.proofs.Links.{none_some, true_false}
 use Rattle.hl_links.specs.Links.{why_kept}
 use Rattle.hl_links.proofs.FoundLinks.{Stands}
@@ -33,10 +34,13 @@ no_bytes (e ∷ es) is =
     let number = length-append (le32 e.ino) (length e.name ∷ []) in
     absurd (omega arith)
 
+apart : (n : ℕ) → 0 < n → nat_eq n 0 ≡ false
+apart n some = grind (arith, nat_tests)
+
 some_bytes : (es : List Entry) (size : ℕ) → size ≡ length (dir_bytes es) → nat_eq size 0 ≡ false → nat_eq (length es) 0 ≡ false
 unfolding dir_bytes
 some_bytes [] size is some = absurd (true_false (ap (λ n. nat_eq n 0) (sym is) ∙ some))
-some_bytes (e ∷ es) size is some = refl
+some_bytes (e ∷ es) size is some = apart (length (e ∷ es)) (omega arith)
 
 -- what is decided of a size
 full_if : (b : Bool) (why : Refusal) → (if b then None else Some Enotempty) ≡ Some why → (b ≡ false) × (why ≡ Enotempty)

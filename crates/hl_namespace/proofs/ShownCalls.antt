@@ -1,13 +1,12 @@
 -- Calls that show what stands at a path.
-use Rattle.std.proofs.Common.{◌≡◌, ℕ, true, false, List, [], length, Option, Some, None, Ok, Err, refl, ap, ◌∙◌, sym, subst}
+use Rattle.std.proofs.Common.{◌≡◌, ℕ, true, false, List, length, Option, Some, Ok, refl, ap, ◌∙◌, sym, subst}
 use Rattle.std.specs.FinMap.{get}
 use Rattle.hl_media.specs.History.{History, state_now}
 use Rattle.hl_media.specs.Moments.{Runs}
 use Rattle.hl_log.specs.Logs.{OnlyReads}
 use Rattle.hl_log.specs.Rest.{IsUnchanged}
-use Rattle.hl_inode.specs.declared.inode.Kind.TheVariants.{Dir, File}
+use Rattle.hl_inode.specs.declared.inode.Kind.TheVariants.{File}
 use Rattle.hl_tree.specs.declared.call.Call.TheVariants as calls
-use Rattle.hl_tree.specs.declared.call.Reply.{Reply}
 use Rattle.hl_tree.specs.declared.call.Reply.TheVariants as replies
 use Rattle.hl_tree.specs.declared.call.Refusal.TheVariants.{Enametoolong, Enotdir}
 use Rattle.hl_tree.specs.Names.{is_too_long}
@@ -15,15 +14,13 @@ use Rattle.hl_dir.specs.declared.entry.Entry.{Entry}
 use Rattle.hl_placed.specs.Blocks.{PlacedFile}
 use Rattle.hl_paths.specs.ByNumbers.{numbered_status}
 use Rattle.hl_paths.specs.Entries.{entry_names}
-use Rattle.hl_paths.specs.Finding.{find_number}
-use Rattle.hl_paths.specs.Numbered.{Directory, Leaf, Numbering}
+use Rattle.hl_paths.specs.Numbered.{Directory, Leaf}
 use Rattle.hl_entries.specs.Places.{IfSpells}
 use Rattle.hl_store.specs.declared.answers.Node.{Node}
 use Rattle.hl_store.specs.Values.{StoreValue, layout}
 use Rattle.hl_store.specs.Finding.{HasNodeFound, OverNow, ReadsNodes}
-use Rattle.hl_store.proofs.ReadRuns.{reads_then, rose_since}
+use Rattle.hl_store.proofs.ReadRuns.{reads_then}
 use Rattle.hl_ranges.specs.Directories.{HasDirectory, HasKind}
-use Rattle.hl_walk.specs.Trees.{OfTree}
 use Rattle.hl_walk.specs.Walks.{LeadsNowhere, LeadsTo}
 use Rattle.hl_walk.specs.declared.walk.Halt.{Halt}
 use Rattle.hl_walk.specs.Walks.{Halts}
@@ -38,6 +35,7 @@ use Rattle.hl_links.proofs.FoundLinks.{Stands, stands_before}
 use Rattle.hl_links.proofs.ChangedCalls.{ends_stopped_since}
 use Rattle.hl_links.proofs.StoppedCalls.{ends_halted}
 use Rattle.hl_namespace.specs.NameCounts.{CountsNames, IsCount}
+use Rattle.hl_namespace.proofs.StoppedChanges.{nothing_run}
 use Rattle.hl_namespace.proofs.NameExits.{list_done, list_file, list_long, list_lost, stat_done, stat_long, stat_lost}
 
 module _ {M : Type 0} (history : M → Option History) where
@@ -50,13 +48,13 @@ module _ {M : Type 0} (history : M → Option History) where
 
   module _ (faults : M → ℕ) (old : StoreValue M) (now : ℕ) (path : List (List ℕ)) where
     -- a path that is too long
-    module _ (run : Runs (history old.log.machine) (history old.log.machine) IsUnchanged) (long : is_too_long path ≡ true) where
+    module _ (long : is_too_long path ≡ true) where
       pub list_refused : MakesCall history faults old old now (calls.List path) (step.Done (replies.Refused Enametoolong))
-      list_refused = ends_refused history old old run (reads_nothing history old) faults now (calls.List path) Enametoolong
+      list_refused = ends_refused history old old (nothing_run (history old.log.machine)) (reads_nothing history old) faults now (calls.List path) Enametoolong
           (λ h told c lies shelf numbered shows knows placed. list_long (site_limits (layout old)) numbered path long)
 
       pub stat_refused : MakesCall history faults old old now (calls.Stat path) (step.Done (replies.Refused Enametoolong))
-      stat_refused = ends_refused history old old run (reads_nothing history old) faults now (calls.Stat path) Enametoolong
+      stat_refused = ends_refused history old old (nothing_run (history old.log.machine)) (reads_nothing history old) faults now (calls.Stat path) Enametoolong
           (λ h told c lies shelf numbered shows knows placed. stat_long (site_limits (layout old)) shelf numbered now path long)
 
     module _ (short : is_too_long path ≡ false) where

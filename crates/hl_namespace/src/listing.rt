@@ -74,7 +74,7 @@ pub fn stat<M: Machine>(store: &mut Store<M>, alloc: Global, now: u64, path: &Pa
     }
 }
 
-/// How many names a directory has.
+/// How many names a directory has. More than 2^32 - 1 count as want of memory.
 fn count_names<M: Machine>(store: &mut Store<M>, alloc: Global, number: u32) -> FileStep
     requires number { IsNumber store.old number }
     ensures counted { CountsNames M.history M.faults store.old store.new number result }
@@ -82,12 +82,14 @@ fn count_names<M: Machine>(store: &mut Store<M>, alloc: Global, number: u32) -> 
     ensures machine { OnlyReads M.history M.blocks M.faults M.write_faults M.say_faults
         store.old.log.machine store.new.log.machine }
 {
-    match read_directory(store, alloc, number) {
-        DirectoryFound::Bytes(bytes) => match u32::try_from(count(bytes.as_slice())) {
-            Ok(names) => FileStep::Done(Reply::Dir(names)),
-            Err(_) => FileStep::Memory,
-        },
-        DirectoryFound::File | DirectoryFound::Memory => FileStep::Memory,
-        DirectoryFound::DiskFault => FileStep::DiskFault,
+    let bytes = match read_directory(store, alloc, number) {
+        DirectoryFound::Bytes(bytes) => bytes,
+        DirectoryFound::File | DirectoryFound::Memory => return FileStep::Memory,
+        DirectoryFound::DiskFault => return FileStep::DiskFault,
+    };
+    let names = count(bytes.as_slice());
+    if names > u32::MAX as usize {
+        return FileStep::Memory;
     }
+    FileStep::Done(Reply::Dir(names as u32))
 }

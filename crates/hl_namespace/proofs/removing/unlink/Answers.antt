@@ -1,0 +1,4 @@
+use Rattle.hl_namespace.proofs.removing.unlink.Goals as goal
+
+pub returns-clause-made : goal.returns-clause-made
+returns-clause-made g c = c.take.ensures.made c.args.now
