@@ -111,7 +111,7 @@ fn write_into<M: Machine>(
         RangeStep::Memory => return FileStep::Memory,
     }
     touch_lines(store, tsegs.as_slice());
-    // The change said so already; that its number has a last use is told by this call alone.
+    // The change has set it already, but only this call tells that the number has a last use.
     store.touch(number, now);
     FileStep::Done(Reply::Ok)
 }
@@ -194,7 +194,7 @@ fn cut_to<M: Machine>(
         RangeStep::Memory => return FileStep::Memory,
     }
     touch_lines(store, tsegs.as_slice());
-    // The change said so already; that its number has a last use is told by this call alone.
+    // The change has set it already, but only this call tells that the number has a last use.
     store.touch(number, now);
     FileStep::Done(Reply::Ok)
 }
