@@ -8,7 +8,6 @@ use Rattle.hl_super.specs.declared.record.Record.{Record}
 use Rattle.hl_image.specs.declared.place.LogPlace.{LogPlace}
 use Rattle.hl_tseg.specs.SlotTable as slots
 use Rattle.hl_tables.specs.Values.{TableValues}
-use Rattle.hl_log.specs.Checkpoints.{IsOf}
 use Rattle.hl_log.specs.Loads.{bytes_of_tables}
 use Rattle.hl_log.specs.Logs.{unit_of}
 use Rattle.hl_log.specs.Units.{Brought}

@@ -1,5 +1,5 @@
 -- A new site: the root alone.
-use Rattle.std.specs.Prelude.{◌≡◌, ◌≢◌, ◌⊎◌, ℕ}
+use Rattle.std.specs.Prelude.{◌≡◌, ◌⊎◌, ℕ}
 use Rattle.hl_media.specs.History.{Image}
 use Rattle.hl_addr.specs.Layout.{Layout}
 use Rattle.hl_super.specs.Labels.{Spells}

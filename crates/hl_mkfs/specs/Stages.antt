@@ -1,5 +1,5 @@
 -- How far a site is made.
-use Rattle.std.specs.Prelude.{◌≡◌, ℕ, true, false, [], length, List}
+use Rattle.std.specs.Prelude.{◌≡◌, ℕ, true, false, [], List}
 use Rattle.hl_media.specs.History.{Image, MachineState}
 use Rattle.hl_addr.specs.Layout.{Layout}
 use Rattle.hl_bytes.specs.Fields.{zeros}

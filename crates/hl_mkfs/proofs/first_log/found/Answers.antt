@@ -1,7 +1,6 @@
-use Rattle.std.proofs.Common.{◌≡◌, Option, ap, sym, subst}
+use Rattle.std.proofs.Common.{Option, ap, sym, subst}
 use Rattle.hl_media.specs.History.{History}
 use Rattle.hl_media.specs.Moments.{Ends}
-use Rattle.hl_addr.specs.Layout.{Layout}
 use Rattle.hl_mkfs.specs.Stages.{IsBlank, IsFounded, Leads}
 use Rattle.hl_mkfs.proofs.FirstCuts.{start_place}
 use Rattle.hl_mkfs.proofs.Joining.{blank_stops, opened_founds}
