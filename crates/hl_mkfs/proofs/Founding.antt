@@ -39,8 +39,8 @@ use Rattle.hl_nodes.specs.Live.LiveBlock.{Table, OfNode}
 use Rattle.hl_nodes.specs.Sound.{AreSlots, AwayOnce, IsSound, IsUsed}
 use Rattle.hl_nodes.proofs.CheckpointLaws.{item_in, new_has}
 use Rattle.hl_nodes.proofs.ListingLaws.{first_holds}
-use Rattle.hl_mkfs.specs.Parts.{before_first, first_tables, root_address, root_bytes, root_end}
-use Rattle.hl_mkfs.specs.Stages.{IsFounded, IsRooted, Leads, LeavesNoLabel, StandsBehind, first_contents, rooted_position}
+use Rattle.hl_mkfs.specs.Parts.{before_first, first_contents, first_tables, root_address, root_bytes, root_end}
+use Rattle.hl_mkfs.specs.Stages.{IsFounded, IsRooted, Leads, LeavesNoLabel, StandsBehind, rooted_position}
 use Rattle.hl_mkfs.specs.Stops.{StopLeaves}
 use Rattle.hl_mkfs.proofs.FirstTables.{entry_none, first_are_tables, first_used, no_staged, slot_free}
 use Rattle.hl_mkfs.proofs.RootNodes.{IsRootBlock, get_none, get_root, only_root, root_node, root_nodes}
@@ -219,7 +219,7 @@ module _ (g : Layout) (is : IsWithinLimits g) (first : MachineState) (rooted : I
     }
 
     stands : StandsBehind g new image
-    stands = record { number_is = has.next.number_is; root = root_kept; has = has_all; sound = sound; listed = listed.listed }
+    stands = record { number_is = has.next.number_is; serial_is = has.next.tseg_serial; root = root_kept; has = has_all; sound = sound; listed = listed.listed }
 
   -- AND AFTERWARDS the site stands without its label
   module _ (s : MachineState) (synced : s.pending ≡ []) (q : Position) (left : List ℕ) (new : Record) (done : HasCheckpointed g rooted_position [] given blocks_in q left new first s) where

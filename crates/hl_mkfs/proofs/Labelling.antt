@@ -51,9 +51,9 @@ use Rattle.hl_nodes.proofs.PointerLemmas.{in_log-low}
 use Rattle.hl_nodes.proofs.Rows.{row_lies, row_same}
 use Rattle.hl_nodes.proofs.SoundUnits.{sound_same}
 use Rattle.hl_nodes.proofs.UnitLaws.{live_in_log}
-use Rattle.hl_mkfs.specs.Parts.{first_tables, root_address, root_bytes, root_inode}
+use Rattle.hl_mkfs.specs.Parts.{first_contents, first_tables, root_address, root_bytes, root_inode}
 use Rattle.hl_mkfs.specs.Sites.{HoldsRoot, IsNewSite, IsNoneOrNew}
-use Rattle.hl_mkfs.specs.Stages.{IsFounded, Leads, StandsBehind, first_contents}
+use Rattle.hl_mkfs.specs.Stages.{IsFounded, Leads, StandsBehind}
 use Rattle.hl_mkfs.specs.Stops.{IsMade, StopLeaves}
 use Rattle.hl_mkfs.proofs.FirstTables.{root_spelled}
 use Rattle.hl_mkfs.proofs.RootNodes.{charge_within, only_root}
@@ -122,6 +122,7 @@ module _ (g : Layout) (a b : Image) (same : (k : ℕ) → 1 ≤ k → b k ≡ a 
   stands_same : StandsBehind g new b
   stands_same = record {
     number_is = stands.number_is;
+    serial_is = stands.serial_is;
     root = same (root_address g) (omega arith) ∙ stands.root;
     has = has_kept;
     sound = sound_same g a b (first_contents g new) agree stands.has stands.sound;
@@ -157,7 +158,7 @@ module _ (g : Layout) (image : Image) (new : Record) (stands : StandsBehind g ne
   }
 
   holds_root : HoldsRoot g image
-  holds_root = record { contents = first_contents g new; number_is = stands.number_is; nodes_are = refl; in_order = in_order; listed = stands.listed }
+  holds_root = record { first = new; number_is = stands.number_is; serial_is = stands.serial_is; in_order = in_order; listed = stands.listed }
 
   pub new_site : (blocks : ℕ) → Spells blocks (image 0) (label_of g) → IsNewSite blocks g image
   new_site blocks label = record {
