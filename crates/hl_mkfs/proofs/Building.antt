@@ -2,7 +2,7 @@
 use Rattle.std.proofs.Common.{◌≡◌, ℕ, Option, Result, Ok, Err, subst}
 use Rattle.std.specs.Prelude.{IfOk}
 use Rattle.hl_addr.specs.Layout.{Layout}
-use Rattle.hl_media.specs.History.{History, MachineState}
+use Rattle.hl_media.specs.History.{History}
 use Rattle.hl_media.specs.Moments.{Ends, Runs}
 use Rattle.hl_mkfs.specs.declared.making.MkfsError.{MkfsError}
 use Rattle.hl_mkfs.specs.Answers.{machine_of}

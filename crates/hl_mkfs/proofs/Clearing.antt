@@ -1,5 +1,5 @@
 -- Zeros in the disk's first blocks, and in the log's.
-use Rattle.std.proofs.Common.{◌≡◌, inl, inr, ℕ, ◌+◌, ◌-◌, ◌*◌, ◌/◌, ◌<◌, ◌≤◌, List, [], length, Option, Result, refl, sym, ◌∙◌, ap, subst, arith}
+use Rattle.std.proofs.Common.{◌≡◌, inl, ℕ, ◌-◌, ◌/◌, ◌<◌, ◌≤◌, List, [], length, Option, Result, refl, sym, ◌∙◌, ap, subst, arith}
 use Rattle.std.specs.Prelude.{OnOk}
 use Rattle.hl_addr.specs.Layout.{Layout}
 use Rattle.hl_bytes.specs.Fields.{zeros}

@@ -1,13 +1,12 @@
 -- How the first unit and the first checkpoint are cut into parts.
-use Rattle.std.proofs.Common.{◌≡◌, ◌⊎◌, inl, inr, ⊎_elim, ℕ, ◌+◌, ◌-◌, ◌*◌, ◌/◌, ◌<◌, ◌≤◌, ◌^◌, min, List, [], ◌∷◌, length, refl, sym, ◌∙◌, ap, subst, arith}
+use Rattle.std.proofs.Common.{◌≡◌, inl, ⊎_elim, ℕ, ◌+◌, ◌-◌, ◌/◌, ◌<◌, ◌≤◌, ◌^◌, min, List, [], ◌∷◌, length, refl, ◌∙◌, ap, arith}
 use Rattle.std.proofs.lemmas.Bool.{cases_lt}
 use Rattle.hl_addr.specs.Layout.{Layout, IsWithinLimits, table_blocks}
 use Rattle.hl_image.specs.declared.place.LogPlace.{LogPlace}
 use Rattle.hl_image.specs.Places.{IsLogPlace}
 use Rattle.hl_log.specs.declared.piece.Piece.{Piece}
-use Rattle.hl_log.specs.declared.position.Position.{Position}
 use Rattle.hl_log.specs.Free.{AreClean}
-use Rattle.hl_log.specs.Cut.{AreCut, HasClean, Takes, place_behind}
+use Rattle.hl_log.specs.Cut.{AreCut, HasClean, place_behind}
 use Rattle.hl_log.specs.Units.{GoesOn, Numbered, moved}
 use Rattle.hl_log.proofs.Cutting.{few_parts}
 use Rattle.hl_log.proofs.Sites.{large_segments, small_segments, few_tables}
@@ -65,11 +64,16 @@ module _ (g : Layout) (is : IsWithinLimits g) where
       let first : 240 ≡ min n (min 240 (g.k - (2 + 1))) = omega arith in
       let second : n - 240 ≡ min (n - 240) (min 240 (g.k - (243 + 1))) = omega arith in
       let p : Piece = record { at = root_end; blocks = 240; tables = 0; next = behind 243 } in
-      let q : Piece = record { at = behind 243; blocks = n - 240; tables = 0; next = behind (243 + (n - 240) + 1) } in
-      (p ∷ q ∷ [], [], ([],
-      record { at_is = refl; blocks_are = first; tables_are = refl; goes = inl (omega arith, refl, refl, refl) },
-      omega arith,
-      (record { at_is = refl; blocks_are = second; tables_are = refl; goes = inl (omega arith, refl, refl, refl) }, refl, refl)))
+      let q : Piece = record { at = behind 243; blocks = n - 240; tables = 0; next = behind (243 + (n - 240) + 1) } in (
+        p ∷ q ∷ [],
+        [],
+        (
+          [],
+          record { at_is = refl; blocks_are = first; tables_are = refl; goes = inl (omega arith, refl, refl, refl) },
+          omega arith,
+          (record { at_is = refl; blocks_are = second; tables_are = refl; goes = inl (omega arith, refl, refl, refl) }, refl, refl),
+        ),
+      )
 
   pub tables_clean : HasClean g root_end [] (table_blocks g) 0
   tables_clean = ⊎_elim

@@ -1,22 +1,20 @@
 -- The first tables, and the root's inode.
-use Rattle.std.proofs.Common.{◌≡◌, ◌≢◌, inl, inr, ℕ, zero, suc, ◌+◌, ◌*◌, ◌<◌, ◌≤◌, ◌^◌, Bool, true, false, List, [], ◌∷◌, ◌++◌, length, map, replicate, get_or, refl, sym, ◌∙◌, ap, subst, arith, lit<}
-use Rattle.std.specs.Prelude.{All, sum, count_by, slice_index, slice_set}
+use Rattle.std.proofs.Common.{◌≡◌, ◌≢◌, inr, ℕ, zero, suc, ◌+◌, ◌<◌, ◌≤◌, ◌^◌, true, false, List, [], ◌∷◌, ◌++◌, length, map, replicate, get_or, refl, sym, ◌∙◌, ap, subst, arith, lit<}
+use Rattle.std.specs.Prelude.{sum, count_by, slice_index, slice_set}
 use Rattle.std.specs.List.{AllByRecursion, range_with_len, slice_index_or}
 use Rattle.std.proofs.lemmas.List.{length-set, length-replicate, get_or-set_same, get_or-set_other, get_or-replicate}
 use Rattle.std.proofs.lemmas.List.Elements.{All-set, All-replicate}
 use Rattle.std.proofs.lemmas.List.FromFn.{map-range_with_len_more}
 use Rattle.hl_bytes.specs.declared.block.Block.{Block}
 use Rattle.hl_addr.specs.Layout.{Layout, IsWithinLimits, table_blocks, table_blocks_of}
-use Rattle.hl_inode.specs.Inodes.{AreNothing, Spells, inode_bytes}
-use Rattle.hl_tseg.specs.SlotTable.{SlotTable, slot_at}
-use Rattle.hl_tseg.specs.SlotTable as slots
+use Rattle.hl_inode.specs.Inodes.{AreNothing, Spells}
+use Rattle.hl_tseg.specs.SlotTable.{slot_at}
 use Rattle.hl_tseg.specs.Slots.{HasRoom, is_staged}
-use Rattle.hl_tseg.specs.declared.slot.Slot.{Slot}
 use Rattle.hl_tseg.specs.declared.slot.Slot.TheVariants.{Free}
 use Rattle.hl_tables.specs.Values.{AreTables, SameShape, TableValues, fresh}
 use Rattle.hl_tables.specs.TableBlocks.{table_block}
 use Rattle.hl_log.specs.Loads.{bytes_of_tables}
-use Rattle.hl_log.proofs.Sites.{small_segments, large_segments}
+use Rattle.hl_log.proofs.Sites.{small_segments}
 use Rattle.hl_mkfs.specs.Parts.{first_tables, root_address, root_bytes, root_inode}
 
 pub first_shape : (g : Layout) → SameShape (fresh g) (first_tables g)

@@ -1,6 +1,6 @@
 -- The first checkpoint stands behind the root's inode.
 use Rattle.std.specs.FinMap.{get}
-use Rattle.std.proofs.Common.{◌≡◌, ◌≢◌, ◌⊎◌, inl, inr, ⊎_elim, ℕ, ◌+◌, ◌*◌, ◌/◌, ◌<◌, ◌≤◌, ◌^◌, List, [], ◌∷◌, length, refl, sym, ◌∙◌, ap, subst, arith, lit<}
+use Rattle.std.proofs.Common.{◌≡◌, ◌≢◌, ◌⊎◌, inl, inr, ⊎_elim, ℕ, ◌+◌, ◌*◌, ◌/◌, ◌<◌, ◌≤◌, List, [], length, refl, sym, ◌∙◌, ap, subst, arith, lit<}
 use Rattle.std.specs.Prelude.{Contains, Option, Some, None, slice_index}
 use Rattle.std.proofs.lemmas.Bool.{cases_eq}
 use Rattle.std.proofs.lemmas.List.{get_or_past}
@@ -12,7 +12,7 @@ use Rattle.hl_addr.proofs.SegmentLemmas.{is_in}
 use Rattle.hl_bytes.specs.Fields.{zeros}
 use Rattle.hl_dir.specs.Dirs.{dir_bytes}
 use Rattle.hl_super.specs.declared.record.Record.{Record}
-use Rattle.hl_image.specs.Newest.{IsNewest, label_of, start_of}
+use Rattle.hl_image.specs.Newest.{label_of, start_of}
 use Rattle.hl_log.specs.declared.position.Position.{Position}
 use Rattle.hl_log.specs.Free.{IsFree, Once}
 use Rattle.hl_log.specs.Checkpoints.{Checkpoints, FreesLess, Given, HasCheckpointed, HasNew, IsReady, KeepsRest, given_by, restarted_at}
@@ -26,25 +26,24 @@ use Rattle.hl_tables.specs.TableBlocks.{table_block}
 use Rattle.hl_tables.specs.Values.{TableValues}
 use Rattle.hl_tseg.specs.SlotTable.{slot_at}
 use Rattle.hl_tseg.specs.Slots.{HoldsSerial, serial_of}
-use Rattle.hl_tseg.specs.declared.slot.Slot.{Slot}
 use Rattle.hl_tseg.specs.declared.slot.Slot.TheVariants.{Free, Staged}
-use Rattle.hl_placed.specs.Blocks.{Away, Block, Hole, blocks_of, file_block}
+use Rattle.hl_placed.specs.Blocks.{Away, Hole, blocks_of, file_block}
 use Rattle.hl_paths.specs.Nodes.{FlatNode, directory_content, fresh_nodes}
 use Rattle.hl_paths.proofs.Links.{none_some}
 use Rattle.hl_nodes.specs.Checkpoints.{Carries, contents_of_tables}
 use Rattle.hl_nodes.specs.Contents.{HasContents}
-use Rattle.hl_nodes.specs.Listing.{AreListed, AreNodesListed, HasListed, HoldsListed}
+use Rattle.hl_nodes.specs.Listing.{AreNodesListed, HasListed, HoldsListed}
 use Rattle.hl_nodes.specs.Live.{NodeBlock, IsNodeBlock, LiveBlock, IsLiveAt, record_of}
 use Rattle.hl_nodes.specs.Live.NodeBlock.{Own}
 use Rattle.hl_nodes.specs.Live.LiveBlock.{Table, OfNode}
 use Rattle.hl_nodes.specs.Sound.{AreSlots, AwayOnce, IsSound, IsUsed}
 use Rattle.hl_nodes.proofs.CheckpointLaws.{item_in, new_has}
 use Rattle.hl_nodes.proofs.ListingLaws.{first_holds}
-use Rattle.hl_mkfs.specs.Parts.{before_first, first_tables, root_address, root_bytes, root_end}
-use Rattle.hl_mkfs.specs.Stages.{IsFounded, IsRooted, Leads, LeavesNoLabel, StandsBehind, first_contents, rooted_position}
+use Rattle.hl_mkfs.specs.Parts.{before_first, first_contents, first_tables, root_address, root_bytes, root_end}
+use Rattle.hl_mkfs.specs.Stages.{IsFounded, IsRooted, Leads, LeavesNoLabel, StandsBehind, rooted_position}
 use Rattle.hl_mkfs.specs.Stops.{StopLeaves}
 use Rattle.hl_mkfs.proofs.FirstTables.{entry_none, first_are_tables, first_used, no_staged, slot_free}
-use Rattle.hl_mkfs.proofs.RootNodes.{IsRootBlock, get_none, get_root, only_root, root_in_log, root_node, root_nodes}
+use Rattle.hl_mkfs.proofs.RootNodes.{IsRootBlock, get_none, get_root, only_root, root_node, root_nodes}
 use Rattle.hl_mkfs.proofs.FirstCuts.{none_clean, root_end_place, tables_clean, tables_numbered}
 use Rattle.hl_mkfs.proofs.Rooting.{low_not_free}
 use Rattle.hl_mkfs.proofs.Zeros.{no_record}
@@ -220,7 +219,7 @@ module _ (g : Layout) (is : IsWithinLimits g) (first : MachineState) (rooted : I
     }
 
     stands : StandsBehind g new image
-    stands = record { number_is = has.next.number_is; root = root_kept; has = has_all; sound = sound; listed = listed.listed }
+    stands = record { number_is = has.next.number_is; serial_is = has.next.tseg_serial; root = root_kept; has = has_all; sound = sound; listed = listed.listed }
 
   -- AND AFTERWARDS the site stands without its label
   module _ (s : MachineState) (synced : s.pending ≡ []) (q : Position) (left : List ℕ) (new : Record) (done : HasCheckpointed g rooted_position [] given blocks_in q left new first s) where

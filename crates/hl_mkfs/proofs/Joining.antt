@@ -5,6 +5,9 @@ use Rattle.hl_media.specs.History.{History, IsUntouched, MachineState, PendingWr
 use Rattle.hl_media.specs.Moments.{Ends, Runs}
 use Rattle.hl_media.proofs.Runs.{ends_then, goes_on, starts}
 use Rattle.hl_addr.specs.Layout.{Layout}
+use Rattle.hl_super.specs.declared.record.Record.{Record}
+use Rattle.hl_image.specs.declared.place.LogPlace.{LogPlace}
+use Rattle.hl_log.specs.Logs.{LogValue, opened_log}
 use Rattle.hl_bytes.specs.Fields.{zeros}
 use Rattle.hl_mkfs.specs.Stages.{IsBlank, IsFounded, IsRooted, Leads, LeavesNoLabel, LeavesNoneOrNew}
 use Rattle.hl_mkfs.specs.Stops.{StopLeaves}
@@ -37,15 +40,12 @@ module _ (g other : Layout) (same : other ≡ g) (before mid now : Option Histor
   fill_stops blocks many count first more = stops_then (IsBlank g) (IsRooted g) before mid now (StopLeaves blocks g (λ image. image 0 ≡ zeros 4096)) first rooted
       (subst (λ (n : ℕ). Runs mid now (LeavesNoLabel (IsRooted g) n g)) count (subst (λ (x : Layout). Runs mid now (LeavesNoLabel (IsRooted x) many x)) same more))
 
--- the same of a log that was opened for the site
-pub opened_founds : (g other : Layout) → other ≡ g → (before mid now : Option History) → mid ≡ before → Ends mid now (Leads (IsBlank other) (IsFounded other)) → Ends before now (Leads (IsBlank g) (IsFounded g))
-opened_founds g other same before mid now here ends = subst (λ (x : Layout). Ends before now (Leads (IsBlank x) (IsFounded x))) same (subst (λ (told : Option History). Ends told now (Leads (IsBlank other) (IsFounded other))) here ends)
-
-pub opened_stops : (g other : Layout) → other ≡ g → (before mid now : Option History) → mid ≡ before → (blocks many : ℕ) → many ≡ blocks → Runs mid now (LeavesNoLabel (IsBlank other) many other) → Runs before now (LeavesNoLabel (IsBlank g) blocks g)
-opened_stops g other same before mid now here blocks many count run =
-    subst (λ (n : ℕ). Runs before now (LeavesNoLabel (IsBlank g) n g)) count
-    (subst (λ (x : Layout). Runs before now (LeavesNoLabel (IsBlank x) many x)) same
-    (subst (λ (told : Option History). Runs told now (LeavesNoLabel (IsBlank other) many other)) here run))
+-- the same of a log that was opened for the site, and of the machine that it gives back
+pub opened_founds : {M : Type 0} (history : M → Option History) (m : M) (g : Layout) (rec : Record) (head : LogPlace) (serial : ℕ) (log : LogValue M) → log ≡ opened_log m g rec head serial → (now last : M) → last ≡ now
+    → Ends (history log.machine) (history now) (Leads (IsBlank log.geometry) (IsFounded log.geometry)) → Ends (history m) (history last) (Leads (IsBlank g) (IsFounded g))
+opened_founds {M} history m g rec head serial log log_is now last last_is ends =
+    subst (λ (l : LogValue M). Ends (history l.machine) (history last) (Leads (IsBlank l.geometry) (IsFounded l.geometry))) log_is
+    (subst (λ (x : M). Ends (history log.machine) (history x) (Leads (IsBlank log.geometry) (IsFounded log.geometry))) (sym last_is) ends)
 
 -- where nothing is done the first block stays
 pub blank_stops : (g : Layout) (blocks : ℕ) (before now : Option History) → now ≡ before → Runs before now (LeavesNoLabel (IsBlank g) blocks g)

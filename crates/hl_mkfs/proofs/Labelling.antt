@@ -1,11 +1,11 @@
 -- The label makes the site.
 use Rattle.std.specs.FinMap.{get, empty, get-empty, get-insert, same_entries_map}
 use Rattle.std.specs.Ordering.{eq_by_cmp}
-use Rattle.std.proofs.Common.{◌≡◌, ◌⊎◌, inl, inr, ⊎_elim, ℕ, ◌+◌, ◌*◌, ◌/◌, ◌<◌, ◌≤◌, Bool, true, false, cond, List, [], ◌∷◌, length, Option, Some, None, Result, refl, sym, ◌∙◌, ap, subst, arith}
+use Rattle.std.proofs.Common.{◌≡◌, ◌⊎◌, inl, inr, ℕ, ◌+◌, ◌*◌, ◌/◌, ◌≤◌, Bool, true, false, cond, List, [], length, Option, Some, Result, refl, sym, ◌∙◌, ap, subst, arith}
 use Rattle.std.specs.Prelude.{OnOk, slice_index}
 use Rattle.std.proofs.Math.Nat.{mul-le-mul_left}
 use Rattle.hl_media.specs.declared.failed.Failed.{Failed}
-use Rattle.hl_media.specs.History.{Image, History, IsUntouched, MachineState, MayLeave, PendingWrite, overwritten}
+use Rattle.hl_media.specs.History.{Image, History, IsUntouched, MachineState, PendingWrite, overwritten}
 use Rattle.hl_media.specs.Moments.{Ends, Runs}
 use Rattle.hl_media.specs.Synced.{AddsSyncedWrite}
 use Rattle.hl_media.proofs.Images.{overwritten_out}
@@ -19,13 +19,11 @@ use Rattle.hl_tree.proofs.Sorted.{entries-root_alone}
 use Rattle.hl_tree_laws.proofs.OtherContents.{entries-map_contents}
 use Rattle.hl_addr.specs.Layout.{Layout, IsWithinLimits}
 use Rattle.hl_inode.specs.declared.inode.Inode.{Inode}
-use Rattle.hl_inode.specs.declared.inode.Kind.{Kind}
 use Rattle.hl_inode.specs.declared.inode.Kind.TheVariants as kinds
 use Rattle.hl_super.specs.Labels.{Spells}
 use Rattle.hl_super.specs.declared.label.Label.{Label}
 use Rattle.hl_super.specs.declared.record.Record.{Record}
 use Rattle.hl_summary.specs.declared.parts.Summary.{Summary}
-use Rattle.hl_image.specs.declared.place.LogPlace.{LogPlace}
 use Rattle.hl_image.specs.Places.{IsLogPlace}
 use Rattle.hl_image.specs.Chain.{IsCutChain, end_of}
 use Rattle.hl_image.specs.Newest.{label_of, start_of}
@@ -36,13 +34,13 @@ use Rattle.hl_log.proofs.Sites.{large_segments}
 use Rattle.hl_log.proofs.Steps.{one_there, torn_after, torn_during}
 use Rattle.hl_log.proofs.Wraps.{pair_ends, pair_runs}
 use Rattle.hl_placed.specs.Blocks.{PlacedFile, Shelf, plain_bytes}
-use Rattle.hl_placed.specs.Placed.{EachFile, plain}
+use Rattle.hl_placed.specs.Placed.{plain}
 use Rattle.hl_paths.proofs.Links.{none_some}
 use Rattle.hl_paths.proofs.Spelled.{HasTree-fresh}
 use Rattle.hl_nodes.specs.Contents.{HasContents}
 use Rattle.hl_nodes.specs.Directories.{IsInodeIn}
 use Rattle.hl_nodes.specs.Files.{shelf_with}
-use Rattle.hl_nodes.specs.Listing.{AreListed, HasListed, IsListed, PartRow, row_end}
+use Rattle.hl_nodes.specs.Listing.{AreListed, PartRow}
 use Rattle.hl_nodes.specs.Live.{IsLive, IsNodeBlock}
 use Rattle.hl_nodes.specs.Live.NodeBlock.{Own}
 use Rattle.hl_nodes.specs.Nodes.{IsInodeAt}
@@ -53,9 +51,9 @@ use Rattle.hl_nodes.proofs.PointerLemmas.{in_log-low}
 use Rattle.hl_nodes.proofs.Rows.{row_lies, row_same}
 use Rattle.hl_nodes.proofs.SoundUnits.{sound_same}
 use Rattle.hl_nodes.proofs.UnitLaws.{live_in_log}
-use Rattle.hl_mkfs.specs.Parts.{first_tables, root_address, root_bytes, root_inode}
+use Rattle.hl_mkfs.specs.Parts.{first_contents, first_tables, root_address, root_bytes, root_inode}
 use Rattle.hl_mkfs.specs.Sites.{HoldsRoot, IsNewSite, IsNoneOrNew}
-use Rattle.hl_mkfs.specs.Stages.{IsFounded, Leads, StandsBehind, first_contents}
+use Rattle.hl_mkfs.specs.Stages.{IsFounded, Leads, StandsBehind}
 use Rattle.hl_mkfs.specs.Stops.{IsMade, StopLeaves}
 use Rattle.hl_mkfs.proofs.FirstTables.{root_spelled}
 use Rattle.hl_mkfs.proofs.RootNodes.{charge_within, only_root}
@@ -124,6 +122,7 @@ module _ (g : Layout) (a b : Image) (same : (k : ℕ) → 1 ≤ k → b k ≡ a 
   stands_same : StandsBehind g new b
   stands_same = record {
     number_is = stands.number_is;
+    serial_is = stands.serial_is;
     root = same (root_address g) (omega arith) ∙ stands.root;
     has = has_kept;
     sound = sound_same g a b (first_contents g new) agree stands.has stands.sound;
@@ -159,7 +158,7 @@ module _ (g : Layout) (image : Image) (new : Record) (stands : StandsBehind g ne
   }
 
   holds_root : HoldsRoot g image
-  holds_root = record { contents = first_contents g new; number_is = stands.number_is; nodes_are = refl; in_order = in_order; listed = stands.listed }
+  holds_root = record { first = new; number_is = stands.number_is; serial_is = stands.serial_is; in_order = in_order; listed = stands.listed }
 
   pub new_site : (blocks : ℕ) → Spells blocks (image 0) (label_of g) → IsNewSite blocks g image
   new_site blocks label = record {

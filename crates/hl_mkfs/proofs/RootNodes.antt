@@ -1,7 +1,7 @@
 -- The first tables name the root alone.
-use Rattle.std.proofs.Common.{◌≡◌, ◌≢◌, inl, inr, ⊎_elim, ℕ, ◌+◌, ◌-◌, ◌*◌, ◌/◌, ◌%◌, ◌<◌, ◌≤◌, Bool, true, false, cond, nat_eq, List, [], length, refl, sym, ◌∙◌, ap, subst, arith}
-use Rattle.std.specs.Prelude.{Option, Some, None, slice_index}
-use Rattle.std.specs.FinMap.{get, insert, empty, entries, get-empty, get-insert, entries-insert, len-entries, len-empty}
+use Rattle.std.proofs.Common.{◌≡◌, ◌≢◌, inl, ⊎_elim, ℕ, ◌+◌, ◌-◌, ◌*◌, ◌<◌, ◌≤◌, Bool, true, false, cond, nat_eq, List, [], refl, sym, ◌∙◌, ap, subst, arith}
+use Rattle.std.specs.Prelude.{Some, None, slice_index}
+use Rattle.std.specs.FinMap.{get, empty, entries, get-empty, get-insert, entries-insert, len-entries, len-empty}
 use Rattle.std.specs.FinMap.Entries.{put}
 use Rattle.std.specs.Ordering.{nat_cmp}
 use Rattle.std.specs.Cmp.{unsigned_tied}
@@ -24,8 +24,8 @@ use Rattle.hl_log.proofs.Sites.{large_segments}
 use Rattle.hl_tables.specs.Values.{TableValues}
 use Rattle.hl_placed.specs.Blocks.{blocks_of}
 use Rattle.hl_placed.specs.Charges.{blocks_charge}
-use Rattle.hl_paths.specs.Numbered.{NumberedNode, Directory}
-use Rattle.hl_paths.specs.Nodes.{FlatNode, Nodes, directory_content, flat_node, flat_charge, fresh_nodes}
+use Rattle.hl_paths.specs.Numbered.{Directory}
+use Rattle.hl_paths.specs.Nodes.{FlatNode, directory_content, flat_node, flat_charge, fresh_nodes}
 use Rattle.hl_nodes.specs.Nodes.{IsInodeAt, IsNodeOf, IsNodeAt, IsMapEntry, HasNodes}
 use Rattle.hl_nodes.specs.Live.{NodeBlock, LiesAt, IsNodeBlock}
 use Rattle.hl_nodes.specs.Live.NodeBlock.{Own, Pointers, Content}

@@ -1,16 +1,14 @@
 -- The first unit brings the root's inode.
-use Rattle.std.proofs.Common.{◌≡◌, ◌⊎◌, inl, inr, ⊎_elim, ℕ, ◌+◌, ◌*◌, ◌<◌, ◌≤◌, true, List, [], ◌∷◌, ◌++◌, length, map, drop, get_or, refl, sym, ◌∙◌, ap, subst, arith}
+use Rattle.std.proofs.Common.{◌≡◌, inl, inr, ℕ, ◌+◌, ◌*◌, ◌<◌, ◌≤◌, List, [], ◌∷◌, map, drop, get_or, refl, sym, ◌∙◌, ap, subst, arith}
 use Rattle.std.specs.Prelude.{Option, slice_index}
 use Rattle.std.proofs.Math.Seq.{drop-nil}
-use Rattle.hl_media.specs.History.{Image, PendingWrite, MachineState, History, IsUntouched, state_now}
+use Rattle.hl_media.specs.History.{PendingWrite, MachineState, History, IsUntouched, state_now}
 use Rattle.hl_media.specs.Moments.{Ends, Now, Runs}
 use Rattle.hl_addr.specs.Layout.{Layout, IsWithinLimits}
 use Rattle.hl_bytes.specs.Fields.{zeros}
-use Rattle.hl_summary.specs.declared.parts.Summary.{Summary}
 use Rattle.hl_image.specs.declared.place.LogPlace.{LogPlace}
 use Rattle.hl_image.specs.Places.{block_at, log_end}
 use Rattle.hl_image.specs.Parts.{NoPart}
-use Rattle.hl_image.specs.Chain.{cut}
 use Rattle.hl_image.proofs.PartLemmas.{no_part_zeros}
 use Rattle.hl_log.specs.declared.piece.Piece.{Piece}
 use Rattle.hl_log.specs.declared.position.Position.{Position}
@@ -25,7 +23,7 @@ use Rattle.hl_nodes.specs.Live.{record_of}
 use Rattle.hl_nodes.specs.Live.NodeBlock.{Own}
 use Rattle.hl_nodes.specs.Units.{IsPlanned}
 use Rattle.hl_nodes.proofs.ListingLaws.{unit_lists}
-use Rattle.hl_mkfs.specs.Parts.{log_start, root_address, root_bytes, root_end, root_unit}
+use Rattle.hl_mkfs.specs.Parts.{log_start, root_address, root_bytes, root_unit}
 use Rattle.hl_mkfs.specs.Stages.{IsBlank, IsRooted, Leads, LeavesNoLabel, opened_position, rooted_position}
 use Rattle.hl_mkfs.specs.Stops.{StopLeaves}
 use Rattle.hl_mkfs.proofs.FirstCuts.{goes_to_root, none_clean, only_root_piece, root_cut, root_numbered, root_piece, start_place}

@@ -1,5 +1,5 @@
 -- A block of zeros is no label and no record.
-use Rattle.std.proofs.Common.{◌≡◌, ℕ, zero, suc, ◌+◌, ◌-◌, ◌*◌, List, [], ◌∷◌, ◌++◌, length, take, drop, get_or, refl, sym, ◌∙◌, ap, arith, lit≤, length-append}
+use Rattle.std.proofs.Common.{◌≡◌, ℕ, suc, ◌+◌, ◌-◌, ◌*◌, List, [], ◌∷◌, ◌++◌, length, take, get_or, refl, sym, ◌∙◌, ap, arith, lit≤, length-append}
 use Rattle.hl_bytes.specs.Fields.{le32, le64, zeros}
 use Rattle.hl_bytes.specs.Runs.{numbers32}
 use Rattle.hl_bytes.proofs.PageLemmas.{take-page, length-zeros}

@@ -8,11 +8,12 @@ use Rattle.hl_super.specs.declared.record.Record.{Record}
 use Rattle.hl_image.specs.declared.place.LogPlace.{LogPlace}
 use Rattle.hl_tseg.specs.SlotTable as slots
 use Rattle.hl_tables.specs.Values.{TableValues}
-use Rattle.hl_log.specs.Checkpoints.{IsOf}
 use Rattle.hl_log.specs.Loads.{bytes_of_tables}
 use Rattle.hl_log.specs.Logs.{unit_of}
 use Rattle.hl_log.specs.Units.{Brought}
-use Rattle.hl_nodes.specs.Checkpoints.{contents_of_tables}
+use Rattle.hl_paths.specs.Nodes.{fresh_nodes}
+use Rattle.hl_nodes.specs.Checkpoints.{checkpointed, contents_of_tables}
+use Rattle.hl_nodes.specs.Contents.{Contents}
 use Rattle.hl_nodes.specs.Live.{record_of}
 use Rattle.hl_nodes.specs.Live.NodeBlock.{Own}
 use Rattle.hl_mkfs.specs.declared.supplies.Supplies.{Supplies}
@@ -60,6 +61,10 @@ first_tables g = record {
   used = slice_set (replicate g.log false) 0 true;
   slots = slots.fresh g;
 }
+
+-- the contents behind the first record: no part of the log, these tables, and the root alone, a directory of no bytes
+abbrev pub first_contents : Layout → Record → Contents
+first_contents g rec = checkpointed rec (first_tables g) fresh_nodes
 
 -- what the log is opened with: no record yet, and serials from 1 on
 abbrev pub before_first : Layout → Record

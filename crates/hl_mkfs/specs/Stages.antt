@@ -1,5 +1,5 @@
 -- How far a site is made.
-use Rattle.std.specs.Prelude.{◌≡◌, ℕ, true, false, [], length, List}
+use Rattle.std.specs.Prelude.{◌≡◌, ℕ, true, false, [], List}
 use Rattle.hl_media.specs.History.{Image, MachineState}
 use Rattle.hl_addr.specs.Layout.{Layout}
 use Rattle.hl_bytes.specs.Fields.{zeros}
@@ -9,14 +9,12 @@ use Rattle.hl_image.specs.Chain.{cut}
 use Rattle.hl_image.specs.Newest.{start_of}
 use Rattle.hl_log.specs.declared.position.Position.{Position}
 use Rattle.hl_log.specs.Rest.{IsAtRest}
-use Rattle.hl_paths.specs.Nodes.{fresh_nodes}
-use Rattle.hl_nodes.specs.Checkpoints.{checkpointed}
-use Rattle.hl_nodes.specs.Contents.{Contents, HasContents}
+use Rattle.hl_nodes.specs.Contents.{HasContents}
 use Rattle.hl_nodes.specs.Listing.{AreListed, IsListed, HasListed}
 use Rattle.hl_nodes.specs.Sound.{IsSound}
 use Rattle.hl_nodes.specs.Live.{record_of}
 use Rattle.hl_nodes.specs.Live.NodeBlock.{Own}
-use Rattle.hl_mkfs.specs.Parts.{first_tables, log_start, root_address, root_bytes, root_end}
+use Rattle.hl_mkfs.specs.Parts.{first_contents, log_start, root_address, root_bytes, root_end}
 use Rattle.hl_mkfs.specs.Sites.{IsNoneOrNew}
 use Rattle.hl_mkfs.specs.Stops.{StopLeaves}
 
@@ -43,10 +41,6 @@ opened_position = record { start = log_start; first = 1; head = log_start; seria
 abbrev pub rooted_position : Position
 rooted_position = record { start = log_start; first = 1; head = root_end; serial = 2; fresh = false }
 
--- the contents behind the first record
-abbrev pub first_contents : Layout → Record → Contents
-first_contents g new = checkpointed new (first_tables g) fresh_nodes
-
 -- the log is at rest behind the root's inode, which is listed
 pub record IsRooted (g : Layout) (s : MachineState) : Type 0 where
   pub bare : IsBare s
@@ -60,6 +54,7 @@ pub record IsRooted (g : Layout) (s : MachineState) : Type 0 where
 -- behind this record, which is number 1, the image has the first tables and the root alone, which are sound and listed
 pub record StandsBehind (g : Layout) (new : Record) (image : Image) : Type 0 where
   pub number_is : new.number ≡ 1
+  pub serial_is : new.tseg_serial ≡ 1
   pub root : image (root_address g) ≡ root_bytes
   pub has : HasContents g image (first_contents g new)
   pub sound : IsSound g image (first_contents g new)

@@ -22,7 +22,7 @@ use std::alloc::{AllocError, Global};
 pub enum MkfsError {
     /// A write or a sync failed.
     DiskFault,
-    /// Memory was wanting.
+    /// Memory was wanting; no call failed.
     Memory,
 }
 
@@ -46,7 +46,7 @@ fn finish<M: Machine>(machine: M, geometry: &Geometry) -> Result<M, (MkfsError, 
     }
 }
 
-/// Makes the log and the label, where the first blocks are zeros.
+/// Makes the log and the label, where the blocks of the label and of the records are zeros.
 fn build<M: Machine>(
     alloc: Global,
     machine: M,
@@ -75,12 +75,12 @@ fn build<M: Machine>(
     }
 }
 
-/// Makes a site that holds the root alone, whatever was there.
-pub fn mkfs<M: Machine>(
-    alloc: Global,
-    machine: M,
-    geometry: &Geometry,
-) -> Result<M, (MkfsError, M)>
+/// Makes a site that holds the root alone, whatever was there. In this order, each with its sync, it writes zeros in
+/// blocks 0, 1 and 2; zeros in the first block of log segment 1; the root's inode, which comes to block `k + 1`; the table
+/// parts behind it, and record 1; and last the label. From the first of these syncs on a stop leaves a disk without a label,
+/// or the site with its root. Reads nothing. Memory for what it writes is taken before the first write, and for the log
+/// once the zeros are there. The machine has the site's blocks, and is handed back in any case.
+pub fn mkfs<M: Machine>(alloc: Global, machine: M, geometry: &Geometry) -> Result<M, (MkfsError, M)>
     requires { site_blocks geometry.now ≤ M.blocks machine }
     ensures made { IfOk result (λ m. Now (M.history m) (IsMade (M.blocks m) geometry.now)) }
     ensures moments { Makes (M.blocks machine) geometry.now (M.history machine)

@@ -1,4 +1,3 @@
-use Rattle.std.proofs.Common.{◌≡◌}
 use Rattle.hl_log.proofs.Silence.{silent_then}
 use Rattle.hl_mkfs.proofs.Joining.{fill_founds, fill_stops}
 use Rattle.hl_mkfs.proofs.first_log.fill_log.Goals as goal

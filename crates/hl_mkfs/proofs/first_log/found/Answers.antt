@@ -1,8 +1,5 @@
-use Rattle.std.proofs.Common.{◌≡◌, Option, ap, sym, subst}
-use Rattle.hl_media.specs.History.{History}
-use Rattle.hl_media.specs.Moments.{Ends}
-use Rattle.hl_addr.specs.Layout.{Layout}
-use Rattle.hl_mkfs.specs.Stages.{IsBlank, IsFounded, Leads}
+use Rattle.std.proofs.Common.{ap}
+use Rattle.hl_mkfs.specs.Parts.{log_start}
 use Rattle.hl_mkfs.proofs.FirstCuts.{start_place}
 use Rattle.hl_mkfs.proofs.Joining.{blank_stops, opened_founds}
 use Rattle.hl_mkfs.proofs.first_log.found.Goals as goal
@@ -15,7 +12,5 @@ returns-in-Err-clause-crash g c = blank_stops c.args.geometry.now (g.M.Machine.b
 
 pub returns-in-Ok-fill_log-clause-founded : goal.returns-in-Ok-fill_log-clause-founded
 returns-in-Ok-fill_log-clause-founded g c =
-    let site = c.args.geometry.now in
-    subst (λ (told : Option History). Ends (g.M.Machine.history c.args.machine) told (Leads (IsBlank site) (IsFounded site))) (sym (ap g.M.Machine.history c.into_machine.ensures))
-    (opened_founds site c.in-Ok.log.geometry (ap (λ l. l.geometry) c.in-Ok.ensures.opened) (g.M.Machine.history c.args.machine) (g.M.Machine.history c.in-Ok.log.machine) (g.M.Machine.history c.fill_log.new.log.machine)
-    (ap (λ l. g.M.Machine.history l.machine) c.in-Ok.ensures.opened) (c.in-Ok-fill_log.ensures {u = tt}).founded)
+    opened_founds g.M.Machine.history c.args.machine c.args.geometry.now c.args.supplies.start log_start 1 c.in-Ok.log c.in-Ok.ensures.opened c.fill_log.new.log.machine c.into_machine.result c.into_machine.ensures
+    (c.in-Ok-fill_log.ensures {u = tt}).founded

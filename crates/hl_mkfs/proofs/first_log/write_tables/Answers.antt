@@ -1,4 +1,4 @@
-use Rattle.std.proofs.Common.{length, sym, ◌∙◌}
+use Rattle.std.proofs.Common.{sym, ◌∙◌}
 use Rattle.std.proofs.lemmas.List.{length-map}
 use Rattle.hl_bytes.specs.declared.block.Block.{Block}
 use Rattle.hl_log.specs.Loads.{bytes_of_tables}

@@ -1,8 +1,6 @@
-use Rattle.std.proofs.Common.{◌≡◌, ℕ, ◌∙◌, List, replicate, refl, subst}
-use Rattle.hl_media.specs.Moments.{Ends, Runs}
+use Rattle.std.proofs.Common.{ℕ, ◌∙◌, List, replicate, refl}
 use Rattle.hl_log.proofs.Silence.{silent_then, write_silent}
 use Rattle.hl_mkfs.specs.Answers.{machine_of}
-use Rattle.hl_mkfs.specs.Stages.{IsBare, LeavesNoneOrNew}
 use Rattle.hl_mkfs.proofs.Moments.{if_made, makes, zero_blocks}
 use Rattle.hl_mkfs.proofs.making.mkfs.Goals as goal
 

@@ -1,7 +1,6 @@
 use Rattle.std.proofs.Common.{◌≡◌, ◌+◌, ◌*◌, ◌≤◌, length, sym, subst, arith}
 use Rattle.hl_super.specs.declared.label.Label.{Label}
 use Rattle.hl_super.specs.Labels.{Spells}
-use Rattle.hl_image.specs.Newest.{label_of}
 use Rattle.hl_mkfs.proofs.Labelling.{label_ends, label_runs}
 use Rattle.hl_mkfs.proofs.start.put_label.Goals as goal
 

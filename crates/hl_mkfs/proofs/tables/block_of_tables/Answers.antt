@@ -3,7 +3,6 @@ use Rattle.std.specs.Prelude.{sum}
 use Rattle.hl_addr.specs.Layout.{table_blocks_of}
 use Rattle.hl_tables.specs.Values.{TableValues}
 use Rattle.hl_mkfs.proofs.FirstTables.{first_count}
-use Rattle.hl_mkfs.proofs.RootNodes.{root_nodes}
 use Rattle.hl_mkfs.proofs.tables.block_of_tables.Goals as goal
 
 pub write_block-requires-clause-exists : goal.write_block-requires-clause-exists
