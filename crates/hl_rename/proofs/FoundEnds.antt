@@ -48,6 +48,9 @@ kind_stands : (kind : Kind) (size : ℕ) (node : Option (NumberedNode PlacedFile
 kind_stands File size node stands = ap is_directory_node stands.1
 kind_stands Dir size node stands = ap is_directory_node stands.1
 
+size_none : (size : ℕ) → nat_eq size 0 ≡ true → size ≡ 0
+size_none size is = grind arith
+
 -- a directory of no bytes has no entries, and one of some has some
 no_bytes : (es : List Entry) (size : ℕ) → size ≡ length (dir_bytes es) → nat_eq size 0 ≡ true → nat_eq (length es) 0 ≡ true
 unfolding dir_bytes
@@ -56,7 +59,7 @@ no_bytes (e ∷ es) size is none =
     let whole = length-append (entry_bytes e) (dir_bytes es) in
     let front = length-append (le32 e.ino ++ length e.name ∷ []) e.name in
     let number = length-append (le32 e.ino) (length e.name ∷ []) in
-    let zero_is : size ≡ 0 = grind arith in
+    let zero_is = size_none size none in
     absurd (omega arith)
 
 some_bytes : (es : List Entry) (size : ℕ) → size ≡ length (dir_bytes es) → nat_eq size 0 ≡ false → nat_eq (length es) 0 ≡ false

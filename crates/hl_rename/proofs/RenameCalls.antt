@@ -1,5 +1,5 @@
 -- How a rename ends.
-use Rattle.std.proofs.Common.{arith, ◌≡◌, ℕ, ◌-◌, ◌≤◌, true, false, nat_eq, List, [], length, is_some, Option, Ok, Err, refl, ap, ◌∙◌, sym, subst}
+use Rattle.std.proofs.Common.{arith, ◌≡◌, ℕ, ◌≤◌, true, false, nat_eq, List, [], length, is_some, Option, Ok, Err, refl, ap, ◌∙◌, sym, subst}
 use Rattle.std.specs.Prelude.{◌&&◌, Bool}
 use Rattle.std.specs.Ordering.{eq_by_cmp}
 use Rattle.hl_media.specs.History.{History, state_now}
@@ -8,7 +8,7 @@ use Rattle.hl_addr.specs.Layout.{quota}
 use Rattle.hl_log.specs.Logs.{OnlyReads}
 use Rattle.hl_log.specs.Rest.{IsUnchanged}
 use Rattle.hl_inode.specs.declared.inode.Kind.{Kind}
-use Rattle.hl_tree.specs.declared.call.Call.{Call}
+use Rattle.hl_tree.specs.declared.call.Limits.{Limits}
 use Rattle.hl_tree.specs.declared.call.Call.TheVariants as calls
 use Rattle.hl_tree.specs.declared.call.Reply.TheVariants as replies
 use Rattle.hl_tree.specs.declared.call.Refusal.{Refusal}
@@ -48,9 +48,9 @@ use Rattle.hl_rename.proofs.RenameExits.{rename_from_long, rename_root, rename_t
 use Rattle.hl_rename.proofs.RenameRules.{source_below, source_lost, source_moves, source_onto_root, source_same, target_lost}
 
 -- the nodes that a move leaves are those of the rules
-moves_by : (v : ℕ) (from to : List (List ℕ)) (name to_name : List ℕ) → name ≡ last_name from → to_name ≡ last_name to → (numbered after : Numbering PlacedFile) (source : Source) (target : Target) (kind : Kind) → IsSource numbered from source → IsTarget numbered kind to target
-    → after ≡ renamed_nodes (record { nodes = v; bytes = 4243456 }) numbered source.parent.number (last_name from) source.number target.parent.number (last_name to) target.number → Moves source name target to_name numbered after
-moves_by v from to name to_name name_is to_name_is numbered after source target kind is goal left = record {
+moves_by : (limits : Limits) (from to : List (List ℕ)) (name to_name : List ℕ) → name ≡ last_name from → to_name ≡ last_name to → (numbered after : Numbering PlacedFile) (source : Source) (target : Target) (kind : Kind) → IsSource numbered from source → IsTarget numbered kind to target
+    → after ≡ renamed_nodes limits numbered source.parent.number (last_name from) source.number target.parent.number (last_name to) target.number → Moves source name target to_name numbered after
+moves_by limits from to name to_name name_is to_name_is numbered after source target kind is goal left = record {
   entries = is.entries;
   spelled = is.spelled;
   there = parent_there numbered from source.parent.number is.entries is.led;
@@ -58,7 +58,7 @@ moves_by v from to name to_name name_is to_name_is numbered after source target 
   to_spelled = goal.spelled;
   to_there = parent_there numbered to target.parent.number goal.entries goal.led;
   at = ap (entry_number goal.entries) to_name_is ∙ goal.at;
-  left = left ∙ (λ i. renamed_nodes (record { nodes = v; bytes = 4243456 }) numbered source.parent.number (sym name_is i) source.number target.parent.number (sym to_name_is i) target.number);
+  left = left ∙ (λ i. renamed_nodes limits numbered source.parent.number (sym name_is i) source.number target.parent.number (sym to_name_is i) target.number);
 }
 
 module _ {M : Type 0} (history : M → Option History) (faults : M → ℕ) (old : StoreValue M) (now : ℕ) (from to : List (List ℕ)) where
@@ -135,7 +135,7 @@ module _ {M : Type 0} (history : M → Option History) (faults : M → ℕ) (old
                   is_over_quota-taken (quota (layout old)) numbered (Ok (replies.Ok, left_of numbered)) refl
                   ∙ ap (λ g. exceeds (quota g) (nodes_charge numbered) (nodes_charge (left_of numbered))) (sym (layout_kept history old next both))
                   ∙ tells numbered (left_of numbered) (charge ∙ sym (ap (λ (v : StoreValue M). v.tally.charge) both.same))
-                  (moves_by ((layout old).inodes - 1) from to name to_name name_is to_name_is numbered (left_of numbered) source target source.kind is at refl)
+                  (moves_by (site_limits (layout old)) from to name to_name name_is to_name_is numbered (left_of numbered) source target source.kind is at refl)
 
               done_is : (shelf : Shelf) (numbered : Numbering PlacedFile) → IsSource numbered from source → IsTarget numbered source.kind to target → done_by old shelf numbered now (calls.Rename from to) ≡ Ok (replies.Ok, left_of numbered)
               done_is shelf numbered is at = source_moves (site_limits (layout old)) numbered from to short to_short some source is other apart named_to target at
@@ -153,7 +153,7 @@ module _ {M : Type 0} (history : M → Option History) (faults : M → ℕ) (old
                     done = done_is shelf numbered from_is to_is;
                     within = quota_since false is.1 numbered (sym (tally_charge-tree old c (state_now h) lies numbered knows)) from_is to_is;
                     needs = refl;
-                    becomes = moves_by ((layout old).inodes - 1) from to name to_name name_is to_name_is numbered (left_of numbered) source target source.kind from_is to_is refl;
+                    becomes = moves_by (site_limits (layout old)) from to name to_name name_is to_name_is numbered (left_of numbered) source target source.kind from_is to_is refl;
                   }))
               ends_moved new more (step.Needs tseg) is = absurd is
               ends_moved new more step.NoSpace is = ends_without_space history old new (reads_then behind more).unchanged (reads_both history old next both behind.unchanged new is.0) faults now (calls.Rename from to)
