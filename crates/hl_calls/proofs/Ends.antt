@@ -47,12 +47,12 @@ module _ {M : Type 0} (history : M → Option History) (old new : StoreValue M)
 
     pub keeps_tables : KeepsTables old new
     keeps_tables = subst (λ (v : StoreValue M). v ≡ record old {
-        log = with_machine old.log v.log.machine;
-        overlay = v.overlay;
-        uses = v.uses;
-        tally = v.tally;
-        lines = v.lines;
-      }) (sym reads.same) refl
+      log = with_machine old.log v.log.machine;
+      overlay = v.overlay;
+      uses = v.uses;
+      tally = v.tally;
+      lines = v.lines;
+    }) (sym reads.same) refl
 
     -- the tree that was known is
     pub known_still : (h : History) → history old.log.machine ≡ Some h → (c : Contents) → LiesOver old c (state_now h)
@@ -66,22 +66,25 @@ module _ {M : Type 0} (history : M → Option History) (old new : StoreValue M)
       -- A CALL THAT LEAVES ALL AS IT WAS is done
       pub ends_unchanged : (reply : Reply)
           → OfFiles history old (λ c shelf numbered. (reply ≡ numbered_reply (done_by old shelf numbered now call))
-            × (numbered_left numbered (done_by old shelf numbered now call) ≡ numbered)
-            × (needed_by numbered call (done_by old shelf numbered now call) ≡ []))
+          × (numbered_left numbered (done_by old shelf numbered now call) ≡ numbered)
+          × (needed_by numbered call (done_by old shelf numbered now call) ≡ []))
           → MakesCall history faults old new now call (step.Done reply)
-      ends_unchanged reply is = (keeps_tables, λ h told c lies shelf numbered shows knows placed.
-          let facts = is h told c lies shelf numbered shows knows placed in
-          record {
-            reply_is = facts.0;
-            within = is_over_quota-same (quota (layout old)) numbered (done_by old shelf numbered now call) (ap nodes_charge facts.1);
-            uses = record {
-              tsegs = [];
-              at_hand = subst (AreAtHand old []) (sym facts.2) tt;
-              lines = ap (λ (v : StoreValue M). v.lines) reads.same;
-            };
-            over = now_after (λ s. LiesOver new c s) h told (reads.keeps h told c lies).over;
-            known = subst (AreKnown new c) (sym facts.1) (known_still h told c lies numbered knows.known);
-          })
+      ends_unchanged reply is = (
+        keeps_tables,
+        λ h told c lies shelf numbered shows knows placed.
+            let facts = is h told c lies shelf numbered shows knows placed in
+            record {
+              reply_is = facts.0;
+              within = is_over_quota-same (quota (layout old)) numbered (done_by old shelf numbered now call) (ap nodes_charge facts.1);
+              uses = record {
+                tsegs = [];
+                at_hand = subst (AreAtHand old []) (sym facts.2) tt;
+                lines = ap (λ (v : StoreValue M). v.lines) reads.same;
+              };
+              over = now_after (λ s. LiesOver new c s) h told (reads.keeps h told c lies).over;
+              known = subst (AreKnown new c) (sym facts.1) (known_still h told c lies numbered knows.known);
+            },
+      )
 
       -- so is one that the rules refuse
       pub ends_refused : (why : Refusal) → OfFiles history old (λ c shelf numbered. done_by old shelf numbered now call ≡ Err why)
@@ -92,7 +95,7 @@ module _ {M : Type 0} (history : M → Option History) (old new : StoreValue M)
 
       -- and one that is answered without a change, and needs nothing
       pub ends_answered : (reply : Reply) → OfFiles history old (λ c shelf numbered.
-            (done_by old shelf numbered now call ≡ Ok (reply, numbered)) × (needed_by numbered call (Ok (reply, numbered)) ≡ []))
+          (done_by old shelf numbered now call ≡ Ok (reply, numbered)) × (needed_by numbered call (Ok (reply, numbered)) ≡ []))
           → MakesCall history faults old new now call (step.Done reply)
       ends_answered reply is = ends_unchanged reply (λ h told c lies shelf numbered shows knows placed.
           let facts = is h told c lies shelf numbered shows knows placed in

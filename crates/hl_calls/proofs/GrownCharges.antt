@@ -85,8 +85,8 @@ module _ (shelf : Shelf) (file : PlacedFile) (is : IsPlacedFile shelf file) (at 
       let b = (tells (file_block file) 12 most).0 in
       let old : blocks_charge file.blocks ≡ parts_charge b (here_below (file_block file) most) = charge-parts file.blocks most b length-old (tells (file_block file) 12 most).1 in
       let new : blocks_charge (written_file shelf file at bytes now).blocks ≡ parts_charge b (here_below new_blocks most) =
-          charge-parts (written_file shelf file at bytes now).blocks most b length-new
-          (tells-alike (file_block file) new_blocks 12 most (λ k from lt. ap is_hole (written-other shelf file is at bytes now some k (inr (omega arith)))) b (tells (file_block file) 12 most).1) in
+      charge-parts (written_file shelf file at bytes now).blocks most b length-new
+      (tells-alike (file_block file) new_blocks 12 most (λ k from lt. ap is_hole (written-other shelf file is at bytes now some k (inr (omega arith)))) b (tells (file_block file) 12 most).1) in
       let grown = same_parts b (here_below (file_block file) most) (here_below new_blocks most) (blocks_of (at + length bytes) - at / 4096) here few count-written in
       ap (λ n. n + 0) new ∙ grown ∙ ap (λ n. n + (blocks_of (at + length bytes) - at / 4096 - here)) (sym old)
 
@@ -100,8 +100,8 @@ module _ (shelf : Shelf) (file : PlacedFile) (is : IsPlacedFile shelf file) (at 
       let reach = blocks_then-end shelf file is at bytes now some in
       let last : at / 4096 ≤ blocks_of (at + length bytes) - 1 = last_touched in
       let new : blocks_charge (written_file shelf file at bytes now).blocks ≡ parts_charge true (here_below new_blocks most) =
-          charge-parts (written_file shelf file at bytes now).blocks most true length-new
-          (blocks_of (at + length bytes) - 1, omega arith, omega arith, here_no_hole (new_blocks (blocks_of (at + length bytes) - 1)) (written-touched shelf file is at bytes now some (blocks_of (at + length bytes) - 1) last (omega arith))) in
+      charge-parts (written_file shelf file at bytes now).blocks most true length-new
+      (blocks_of (at + length bytes) - 1, omega arith, omega arith, here_no_hole (new_blocks (blocks_of (at + length bytes) - 1)) (written-touched shelf file is at bytes now some (blocks_of (at + length bytes) - 1) last (omega arith))) in
       let grown = new_parts b (here_below (file_block file) most) (here_below new_blocks most) (blocks_of (at + length bytes) - at / 4096) here few count-written in
       ap (λ n. n + 0) new ∙ grown ∙ ap (λ n. n + (if b then blocks_of (at + length bytes) - at / 4096 - here else blocks_of (at + length bytes) - at / 4096 - here + 1)) (sym old)
 
@@ -157,7 +157,7 @@ module _ (shelf : Shelf) (file : PlacedFile) (is : IsPlacedFile shelf file) (siz
       let long = length-cut_file shelf file is size now in
       let old : blocks_charge file.blocks ≡ parts_charge had (here_below (file_block file) (blocks_of file.size)) = charge-parts file.blocks (blocks_of file.size) had (omega arith) told in
       let new : blocks_charge (cut_file shelf file size now).blocks ≡ parts_charge has (here_below cut_blocks (blocks_of size)) =
-          charge-parts (cut_file shelf file size now).blocks (blocks_of size) has (omega arith) (tells-alike (file_block file) cut_blocks 12 (blocks_of size) (λ k low high. cut-hole shelf file is size now k high) has told_kept) in
+      charge-parts (cut_file shelf file size now).blocks (blocks_of size) has (omega arith) (tells-alike (file_block file) cut_blocks 12 (blocks_of size) (λ k low high. cut-hole shelf file is size now k high) has told_kept) in
       ap (λ n. n + (if had && not has then gone + 1 else gone)) new
       ∙ by had has (both had has told told_kept) (here_below cut_blocks (blocks_of size)) (here_below (file_block file) (blocks_of size)) (here_below (file_block file) (blocks_of file.size)) (away_edge (file_block file) size) (count-cut less) counts
       ∙ ap (λ n. n + away_edge (file_block file) size) (sym old)

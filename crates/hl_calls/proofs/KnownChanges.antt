@@ -89,14 +89,14 @@ module _ (uses later : List ℕ) (nodes : Nodes) (numbered : Numbering PlacedFil
   pub touched_shown : KnownBy later (with_node nodes ino (option_map (node_used now) (get nodes ino))) (insert numbered ino (Leaf (used_at now file)))
   touched_shown = subst (λ (o : Option FlatNode). KnownBy later (with_node nodes ino (option_map (node_used now) o)) (insert numbered ino (Leaf (used_at now file)))) (sym known_file.1)
       (known_insert uses later nodes numbered known ino others (node_used now known_file.0) (Leaf (used_at now file))
-        (ap (λ (u : ℕ). node_used u known_file.0) own ∙ used_again (slice_index uses ino) now known_file.0 file known_file.2))
+      (ap (λ (u : ℕ). node_used u known_file.0) own ∙ used_again (slice_index uses ino) now known_file.0 file known_file.2))
 
   -- and where it doesn't show it yet
   pub touched_waits : KnownBy later nodes (insert numbered ino (Leaf (used_at now file)))
   touched_waits number = elim (eqb_tells number ino) [
     | inl t ↦ subst (λ (n : ℕ). option_map (known_by later n) (get nodes n) ≡ option_map flat_node (get (insert numbered ino (Leaf (used_at now file))) n)) (sym t.1)
         (ap (option_map (known_by later ino)) known_file.1 ∙ ap Some (ap (λ (u : ℕ). node_used u known_file.0) own ∙ used_again (slice_index uses ino) now known_file.0 file known_file.2)
-          ∙ sym (ap (option_map flat_node) (insert_same numbered ino (Leaf (used_at now file)))))
+        ∙ sym (ap (option_map flat_node) (insert_same numbered ino (Leaf (used_at now file)))))
     | inr t ↦ other_known uses later number (get nodes number) (others number t.1) ∙ known number ∙ sym (ap (option_map flat_node) (insert_other numbered ino (Leaf (used_at now file)) number t.1))
   ]
 

@@ -146,12 +146,12 @@ module _ (nodes : Numbering PlacedFile) (number : ℕ) where
   nodes_charge-remove =
       let less = with_node laid number None in
       let e = reckon (nodes_charge (remove nodes number)) (nodes_charge nodes) (number_charge (get nodes number)) 0
-          (flat_charge less) (flat_charge laid) (charged (get laid number)) (charged (get less number))
-          (charge_replaced laid less number (λ q ne. with_node-other laid number None q ne))
-          (charge-spelled less (remove nodes number) (Spell-remove laid nodes laid-spell number))
-          (charge-spelled laid nodes laid-spell)
-          laid_charged
-          (ap charged (with_node-same laid number None)) in
+      (flat_charge less) (flat_charge laid) (charged (get laid number)) (charged (get less number))
+      (charge_replaced laid less number (λ q ne. with_node-other laid number None q ne))
+      (charge-spelled less (remove nodes number) (Spell-remove laid nodes laid-spell number))
+      (charge-spelled laid nodes laid-spell)
+      laid_charged
+      (ap charged (with_node-same laid number None)) in
       omega (arith, e)
 
 -- DIRECTORIES

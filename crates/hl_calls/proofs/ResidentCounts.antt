@@ -85,7 +85,7 @@ count-all (b ∷ blocks) =
 pub count-below : (blocks : List Block) (n : ℕ) → length blocks ≤ n → count_by is_here blocks ≡ here_below (block_at blocks) n
 count-below blocks n le =
     let past : here_below (block_at blocks) (length blocks + (n - length blocks)) ≡ here_below (block_at blocks) (length blocks) =
-        here_below-none (block_at blocks) (length blocks) (n - length blocks) (λ k low high. ap is_here (get_or_past blocks k Hole low)) in
+    here_below-none (block_at blocks) (length blocks) (n - length blocks) (λ k low high. ap is_here (get_or_past blocks k Hole low)) in
     let all : length blocks + (n - length blocks) ≡ n = omega arith in
     count-all blocks ∙ sym past ∙ ap (here_below (block_at blocks)) all
 

@@ -90,7 +90,11 @@ pub fn cut_growth<M: Machine>(
     let added = count_edge(store, alloc, ino, size)?;
     let had_pointers = has_block(store, alloc, ino, DIRECT, end)?;
     let has_pointers = has_block(store, alloc, ino, DIRECT, kept)?;
-    let removed = if had_pointers && !has_pointers { gone + 1 } else { gone };
+    let removed = if had_pointers && !has_pointers {
+        gone + 1
+    } else {
+        gone
+    };
     Ok(Growth { added, removed })
 }
 
@@ -112,11 +116,7 @@ fn file_size<M: Machine>(store: &mut Store<M>, alloc: Global, ino: u32) -> Resul
 }
 
 /// How many blocks a node has, holes among them.
-fn file_blocks<M: Machine>(
-    store: &mut Store<M>,
-    alloc: Global,
-    ino: u32,
-) -> Result<u32, RangeStep>
+fn file_blocks<M: Machine>(store: &mut Store<M>, alloc: Global, ino: u32) -> Result<u32, RangeStep>
     requires number { IsNumber store.old ino }
     ensures blocks { IfOk result (HasCount M.history store.old ino) }
     ensures stops { IfErr result (Stops M.faults store.old store.new) }

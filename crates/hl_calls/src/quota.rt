@@ -29,5 +29,9 @@ pub fn directory_charge(size: usize) -> u32
     ensures { result ≡ growths.directory_charge size }
 {
     let blocks = size.div_ceil(4_096) as u32;
-    if DIRECT < blocks { blocks + 2 } else { blocks + 1 }
+    if DIRECT < blocks {
+        blocks + 2
+    } else {
+        blocks + 1
+    }
 }

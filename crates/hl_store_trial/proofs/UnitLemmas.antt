@@ -15,8 +15,8 @@ module _ {M : Type 0} where
   pub tidy_behind : (history : M → Option History) (faults write_faults : M → ℕ) (old new : StoreValue M) (used : ℕ) (a : UnitAnswer)
       → a ≡ answer.Written used → FlushEnds history faults write_faults old new a → IsTidy new
   tidy_behind history faults write_faults old new used a is ends = elim (subst (λ (x : UnitAnswer). FlushEnds history faults write_faults old new x) is ends) [
-    | inl nothing ↦ subst (λ (v : StoreValue M). IsTidy v) (sym nothing.1.0) nothing.0
-    | inr written ↦ written.1.1.tidy
+    | inl nothing ↦ subst (λ (v : StoreValue M). IsTidy v) (sym nothing.1) nothing.0
+    | inr written ↦ written.2.tidy
   ]
 
 -- a change of each kind
@@ -24,10 +24,10 @@ pub note_staged : (g : Layout) (r : TableRecord) → r.kind ≡ 2 → r.a < sum 
 note_staged g r kind a = (omega (arith, kind), inr (inl (kind, a)))
 
 pub note_home : (g : Layout) (r : TableRecord) → r.kind ≡ 3 → r.a < sum g.volumes → r.b ≡ 0 → IsNoteOf g r
-note_home g r kind a b = (omega (arith, kind), inr (inr (inl (kind, (a, b)))))
+note_home g r kind a b = (omega (arith, kind), inr (inr (inl (kind, a, b))))
 
 pub note_spoilt : (g : Layout) (r : TableRecord) → r.kind ≡ 4 → r.a < sum g.volumes → r.b ≡ 0 → r.serial ≡ 0 → IsNoteOf g r
-note_spoilt g r kind a b serial = (omega (arith, kind), inr (inr (inr (inl (kind, (a, (b, serial)))))))
+note_spoilt g r kind a b serial = (omega (arith, kind), inr (inr (inr (inl (kind, a, b, serial)))))
 
 pub note_full : (g : Layout) (r : TableRecord) → r.kind ≡ 5 → r.a < length g.volumes → r.b ≡ 0 → r.serial ≡ 0 → IsNoteOf g r
-note_full g r kind a b serial = (omega (arith, kind), inr (inr (inr (inr (kind, (a, (b, serial)))))))
+note_full g r kind a b serial = (omega (arith, kind), inr (inr (inr (inr (kind, a, b, serial)))))

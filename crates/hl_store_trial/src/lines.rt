@@ -41,14 +41,11 @@ pub fn store_line<M: Machine>(
     Some(store.store_line(line, buf))
 }
 
-/// Sets an empty line aside; false where it isn't empty.
-pub fn set_line_aside<M: Machine>(store: &mut Store<M>, line: u32) -> bool {
-    let is_there = line < store.geometry().lines;
-    if !is_there || store.lines().state(line) != LineState::Empty {
-        return false;
-    }
+/// Sets the line that is to go next aside; none where none may go.
+pub fn set_line_aside<M: Machine>(store: &mut Store<M>) -> Option<u32> {
+    let line = store.lines().victim(&[])?;
     store.set_line_aside(line);
-    true
+    Some(line)
 }
 
 /// Gives a line that was set aside to a segment; none where it wasn't, or another line has the segment.

@@ -97,8 +97,8 @@ pub trait Stored {
 
     fn sync(&mut self) -> Result<(), Failed>;
 
-    /// Sets an empty line aside; false where it isn't empty.
-    fn set_line_aside(&mut self, line: u32) -> bool;
+    /// Sets the line that is to go next aside; none where none may go.
+    fn set_line_aside(&mut self) -> Option<u32>;
 
     /// Gives a line that was set aside to a segment; none where it wasn't, or another line has the segment.
     fn bind_line(&mut self, tseg: u32, line: u32) -> Option<Result<(), AllocError>>;
@@ -279,8 +279,8 @@ impl Stored for Trial {
         self.store.sync()
     }
 
-    fn set_line_aside(&mut self, line: u32) -> bool {
-        set_line_aside(&mut self.store, line)
+    fn set_line_aside(&mut self) -> Option<u32> {
+        set_line_aside(&mut self.store)
     }
 
     fn bind_line(&mut self, tseg: u32, line: u32) -> Option<Result<(), AllocError>> {

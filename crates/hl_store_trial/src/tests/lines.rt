@@ -96,13 +96,13 @@ fn fetches<T: Stored + Drop>(rt: &impl Abort, alloc: Global) -> Result<(), Fail>
     has_segment(rt, alloc, &mut store, 3, &STAGED.sealed(alloc, 64)?)?;
     let home = HOME.sealed(alloc, 64)?;
     let (counted, start) = (store.counted(), store.now());
-    assert!(rt; store.set_line_aside(5) && !store.set_line_aside(5) && !store.set_line_aside(3));
-    assert!(rt; store.store_line(5, &home) == Some(Ok(())) && store.sync() == Ok(()));
+    assert!(rt; store.set_line_aside() == Some(0) && store.set_line_aside() == Some(1));
+    assert!(rt; store.store_line(0, &home) == Some(Ok(())) && store.sync() == Ok(()));
     leaves_always(rt, alloc, &store, start, nodes.as_slice())?;
     let mut bytes = [0; BLOCK];
     assert!(rt; store.block(alloc, 2, 1, &mut bytes) == Some(Found::Away(1)));
-    assert!(rt; store.bind_line(1, 5) == Some(Ok(())) && store.bind_line(0, 5).is_none());
-    has_segment(rt, alloc, &mut store, 5, &home)?;
+    assert!(rt; store.bind_line(1, 0) == Some(Ok(())) && store.bind_line(0, 0).is_none());
+    has_segment(rt, alloc, &mut store, 0, &home)?;
     if let Some(Some(file)) = nodes.get(2) {
         has_node(rt, alloc, &mut store, 2, file);
     }
