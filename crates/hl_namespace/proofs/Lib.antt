@@ -1,1 +1,7 @@
 mod NameExits
+mod ShownCalls
+mod RemovalRules
+mod RemovalCalls
+mod NewNodeRules
+mod NewNodeStores
+mod NewNodeCalls

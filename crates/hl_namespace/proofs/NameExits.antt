@@ -4,18 +4,19 @@ use Rattle.std.specs.Prelude.{◌&&◌}
 use Rattle.std.specs.FinMap.{get, insert}
 use Rattle.std.specs.Ordering.{eq_by_cmp}
 use Rattle.hl_tree.specs.declared.call.Limits.{Limits}
+use Rattle.hl_tree.specs.declared.call.Reply.{Reply}
 use Rattle.hl_tree.specs.declared.call.Reply.TheVariants as replies
 use Rattle.hl_tree.specs.declared.call.Refusal.{Refusal}
 use Rattle.hl_tree.specs.declared.call.Refusal.TheVariants.{Enoent, Eexist, Enotdir, Eisdir, Enotempty, Einval, Enametoolong, Einodes}
 use Rattle.hl_tree.specs.Names.{below, is_too_long, path_cmp}
 use Rattle.hl_tree.specs.Refusals.{◌>>=◌, refused_if}
 use Rattle.hl_dir.specs.declared.entry.Entry.{Entry}
-use Rattle.hl_placed.specs.Blocks.{PlacedFile}
+use Rattle.hl_placed.specs.Blocks.{PlacedFile, Shelf}
 use Rattle.hl_paths.specs.Entries.{entry_names, entry_number, with_entry}
 use Rattle.hl_paths.specs.Numbered.{Directory, Leaf, NumberedNode, Numbering}
 use Rattle.hl_paths.specs.Finding.{Parent, entries_in, find_number, find_parent, last_name, leaf_in, named, parent_with}
 use Rattle.hl_paths.specs.Free.{lowest_free}
-use Rattle.hl_paths.specs.ByNumbers.{NumberedDone, at_number, found_free, gone, is_directory_node, list_by_numbers, make_by_numbers, may_replace, onto_root, rename_by_numbers, renamed_nodes, rmdir_by_numbers, stat_by_numbers, unlink_by_numbers}
+use Rattle.hl_paths.specs.ByNumbers.{NumberedDone, at_number, found_free, gone, is_directory_node, list_by_numbers, make_by_numbers, numbered_status, rmdir_by_numbers, stat_by_numbers, unlink_by_numbers}
 use Rattle.hl_calls.proofs.Chains.{goes_on, passes, refuses, stays_refused}
 
 module _ (limits : Limits) (nodes : Numbering PlacedFile) (path : List (List ℕ)) where
@@ -140,3 +141,18 @@ module _ (limits : Limits) (nodes : Numbering PlacedFile) (path : List (List ℕ
             rmdir_done empty = passes (is_too_long path) Enametoolong _ short ∙ passes (nat_eq (length path) 0) Einval _ some ∙ goes_on (find_parent nodes path) _ (parent_with number es) parent
                 ∙ goes_on (named (entry_number es (last_name path))) _ child (ap named there) ∙ goes_on (entries_in (get nodes child)) _ below (ap entries_in dir)
                 ∙ passes (not (nat_eq (length below) 0)) Enotempty _ (ap not empty)
+
+-- WHAT STANDS AT A PATH
+module _ (limits : Limits) (shelf : Shelf) (nodes : Numbering PlacedFile) (now : ℕ) (path : List (List ℕ)) where
+  pub stat_long : is_too_long path ≡ true → stat_by_numbers limits shelf nodes now path ≡ Err Enametoolong
+  unfolding stat_by_numbers
+  stat_long long = refuses (is_too_long path) Enametoolong _ long
+
+  module _ (short : is_too_long path ≡ false) where
+    pub stat_lost : (why : Refusal) → find_number nodes path ≡ Err why → stat_by_numbers limits shelf nodes now path ≡ Err why
+    unfolding stat_by_numbers
+    stat_lost why lost = passes (is_too_long path) Enametoolong _ short ∙ stays_refused (find_number nodes path) _ why lost
+
+    pub stat_done : (number : ℕ) → find_number nodes path ≡ Ok number → (reply : Reply) → numbered_status limits shelf nodes now (get nodes number) ≡ Ok reply → stat_by_numbers limits shelf nodes now path ≡ Ok (reply, nodes)
+    unfolding stat_by_numbers
+    stat_done number leads reply is = passes (is_too_long path) Enametoolong _ short ∙ goes_on (find_number nodes path) _ number leads ∙ goes_on (numbered_status limits shelf nodes now (get nodes number)) _ reply is

@@ -2,10 +2,13 @@
 
 ghost use Rattle.hl_log.specs.Logs.{OnlyReads};
 ghost use Rattle.hl_tree.specs.declared.call.Call.TheVariants as calls;
+ghost use Rattle.hl_store.specs.Finding.{ReadsNodes};
+ghost use Rattle.hl_store.specs.Shapes.{IsNumber};
 ghost use Rattle.hl_calls.specs.Calls.{MakesCall};
+ghost use Rattle.hl_namespace.specs.NameCounts.{CountsNames};
 
 use hl_calls::FileStep;
-use hl_entries::{count, names};
+use hl_entries::count;
 use hl_inode::Kind;
 use hl_links::node_of;
 use hl_media::Machine;
@@ -24,10 +27,11 @@ pub fn list<M: Machine>(store: &mut Store<M>, alloc: Global, now: u64, path: &Pa
         store.old.log.machine store.new.log.machine }
 {
     let _ = now;
-    if is_too_long(path.names()) {
+    let names = path.names();
+    if is_too_long(names) {
         return FileStep::Done(Reply::Refused(Refusal::Enametoolong));
     }
-    let number = match find_number(store, alloc, path.names()) {
+    let number = match find_number(store, alloc, names) {
         Ok(number) => number,
         Err(halt) => return FileStep::halted(halt),
     };
@@ -37,8 +41,8 @@ pub fn list<M: Machine>(store: &mut Store<M>, alloc: Global, now: u64, path: &Pa
         DirectoryFound::DiskFault => return FileStep::DiskFault,
         DirectoryFound::Memory => return FileStep::Memory,
     };
-    match names(alloc, bytes.as_slice()) {
-        Ok(names) => FileStep::Done(Reply::Names(names)),
+    match hl_entries::names(alloc, bytes.as_slice()) {
+        Ok(listed) => FileStep::Done(Reply::Names(listed)),
         Err(_) => FileStep::Memory,
     }
 }
@@ -52,10 +56,11 @@ pub fn stat<M: Machine>(store: &mut Store<M>, alloc: Global, now: u64, path: &Pa
         store.old.log.machine store.new.log.machine }
 {
     let _ = now;
-    if is_too_long(path.names()) {
+    let names = path.names();
+    if is_too_long(names) {
         return FileStep::Done(Reply::Refused(Refusal::Enametoolong));
     }
-    let number = match find_number(store, alloc, path.names()) {
+    let number = match find_number(store, alloc, names) {
         Ok(number) => number,
         Err(halt) => return FileStep::halted(halt),
     };
@@ -70,11 +75,18 @@ pub fn stat<M: Machine>(store: &mut Store<M>, alloc: Global, now: u64, path: &Pa
 }
 
 /// How many names a directory has.
-fn count_names<M: Machine>(store: &mut Store<M>, alloc: Global, number: u32) -> FileStep {
+fn count_names<M: Machine>(store: &mut Store<M>, alloc: Global, number: u32) -> FileStep
+    requires number { IsNumber store.old number }
+    ensures counted { CountsNames M.history M.faults store.old store.new number result }
+    ensures reads { ReadsNodes M.history store.old store.new }
+    ensures machine { OnlyReads M.history M.blocks M.faults M.write_faults M.say_faults
+        store.old.log.machine store.new.log.machine }
+{
     match read_directory(store, alloc, number) {
-        DirectoryFound::Bytes(bytes) => {
-            FileStep::Done(Reply::Dir(count(bytes.as_slice()) as u32))
-        }
+        DirectoryFound::Bytes(bytes) => match u32::try_from(count(bytes.as_slice())) {
+            Ok(names) => FileStep::Done(Reply::Dir(names)),
+            Err(_) => FileStep::Memory,
+        },
         DirectoryFound::File | DirectoryFound::Memory => FileStep::Memory,
         DirectoryFound::DiskFault => FileStep::DiskFault,
     }

@@ -1,8 +1,14 @@
 //! Files and directories taken away.
 
+ghost use Rattle.std.specs.Prelude.{◌≡◌, ℕ};
 ghost use Rattle.hl_log.specs.Logs.{OnlyReads};
 ghost use Rattle.hl_tree.specs.declared.call.Call.TheVariants as calls;
+ghost use Rattle.hl_store.specs.Shapes.{IsNumber};
+ghost use Rattle.hl_ranges.specs.Directories.{IsDraftedDirectory};
 ghost use Rattle.hl_calls.specs.Calls.{MakesCall};
+ghost use Rattle.hl_links.specs.Links.{ChangesOrStops};
+ghost use Rattle.hl_namespace.specs.Removals as removals;
+ghost use Rattle.hl_namespace.specs.Removals.{Unlinks, removal};
 
 use hl_calls::FileStep;
 use hl_entries::{find, remove};
@@ -39,16 +45,18 @@ pub fn rmdir<M: Machine>(store: &mut Store<M>, alloc: Global, now: u64, path: &P
 }
 
 /// Takes a node of a kind away, and its name.
-fn take<M: Machine>(store: &mut Store<M>, alloc: Global, path: &Path, kind: Kind) -> FileStep {
+fn take<M: Machine>(store: &mut Store<M>, alloc: Global, path: &Path, kind: Kind) -> FileStep
+    ensures made { (now : ℕ) → MakesCall M.history M.faults store.old store.new now
+        (removal kind path.now) result }
+    ensures machine { OnlyReads M.history M.blocks M.faults M.write_faults M.say_faults
+        store.old.log.machine store.new.log.machine }
+{
     let names = path.names();
     if is_too_long(names) {
         return FileStep::Done(Reply::Refused(Refusal::Enametoolong));
     }
     let Some(name) = names.last() else {
-        return FileStep::Done(Reply::Refused(match kind {
-            Kind::File => Refusal::Eisdir,
-            Kind::Dir => Refusal::Einval,
-        }));
+        return FileStep::Done(Reply::Refused(root_kept(kind)));
     };
     let parent = match find_parent(store, alloc, names) {
         Ok(parent) => parent,
@@ -76,13 +84,31 @@ fn take<M: Machine>(store: &mut Store<M>, alloc: Global, path: &Path, kind: Kind
     drop_node(store, alloc, &changed, place.ino)
 }
 
+/// Why the root can't be taken away as a node of a kind.
+fn root_kept(kind: Kind) -> Refusal
+    ensures { result ≡ removals.root_kept kind }
+{
+    match kind {
+        Kind::File => Refusal::Eisdir,
+        Kind::Dir => Refusal::Einval,
+    }
+}
+
 /// Frees a number, and puts the directory that doesn't name it any more.
 fn drop_node<M: Machine>(
     store: &mut Store<M>,
     alloc: Global,
     changed: &DirectoryChange,
     number: u32,
-) -> FileStep {
+) -> FileStep
+    requires parent { IsNumber store.old changed.now.number }
+    requires drafted { IsDraftedDirectory store.old changed.now.number }
+    requires number { IsNumber store.old number }
+    ensures dropped { ChangesOrStops M.history M.faults store.old store.new
+        (Unlinks changed.now number) result }
+    ensures machine { OnlyReads M.history M.blocks M.faults M.write_faults M.say_faults
+        store.old.log.machine store.new.log.machine }
+{
     match changed.prepare(store, alloc) {
         Ok(()) => {}
         Err(step) => return step,
