@@ -1,8 +1,9 @@
 -- What is found of the two ends of a rename.
-use Rattle.std.proofs.Common.{arith, ◌≡◌, ℕ, ◌+◌, ◌≤◌, Bool, true, false, not, nat_eq, List, [], ◌∷◌, ◌++◌, length, Option, Some, None, Result, Ok, Err, refl, ap, ◌∙◌, sym, subst, length-append}
+use Rattle.std.proofs.Common.{arith, ◌≡◌, ℕ, ◌+◌, ◌<◌, ◌≤◌, Bool, true, false, not, nat_eq, List, [], ◌∷◌, ◌++◌, length, Option, Some, None, Result, Ok, Err, refl, ap, ◌∙◌, sym, subst, length-append}
 use Rattle.std.specs.Prelude.{if◌then◌else◌}
 use Rattle.std.specs.Option.{ForSome}
 use Rattle.std.specs.FinMap.{get}
+use Rattle.std.proofs.lemmas.Bool.Decides.{nat_tests}
 use Rattle.hl_media.specs.History.{History}
 use Rattle.hl_media.specs.Moments.{Runs}
 use Rattle.hl_log.specs.Rest.{IsUnchanged}
@@ -44,9 +45,12 @@ use Rattle.hl_rename.specs.declared.finding.Target.{Target}
 use Rattle.hl_rename.specs.RenameEnds.{HasNoSource, HasNoTarget, HasSource, HasTarget, halt_of, is_dir, source_in, standing, target_in}
 
 -- A NODE'S KIND is that of what stands under its number
-kind_stands : (kind : Kind) (size : ℕ) (node : Option (NumberedNode PlacedFile)) → Stands kind size node → is_directory_node node ≡ is_dir kind
-kind_stands File size node stands = ap is_directory_node stands.1
-kind_stands Dir size node stands = ap is_directory_node stands.1
+kind_stands : (kind : Kind) (size : ℕ) (o : Option (NumberedNode PlacedFile)) → Stands kind size o → is_directory_node o ≡ is_dir kind
+kind_stands File size o stands = ap is_directory_node stands.1
+kind_stands Dir size o stands = ap is_directory_node stands.1
+
+apart : (n : ℕ) → 0 < n → nat_eq n 0 ≡ false
+apart n some = grind (arith, nat_tests)
 
 size_none : (size : ℕ) → nat_eq size 0 ≡ true → size ≡ 0
 size_none size is = grind arith
@@ -65,7 +69,7 @@ no_bytes (e ∷ es) size is none =
 some_bytes : (es : List Entry) (size : ℕ) → size ≡ length (dir_bytes es) → nat_eq size 0 ≡ false → nat_eq (length es) 0 ≡ false
 unfolding dir_bytes
 some_bytes [] size is some = absurd (true_false (ap (λ n. nat_eq n 0) (sym is) ∙ some))
-some_bytes (e ∷ es) size is some = refl
+some_bytes (e ∷ es) size is some = apart (length (e ∷ es)) (omega arith)
 
 -- what is decided of a size
 full_if : (b : Bool) (why : Refusal) → (if b then None else Some Enotempty) ≡ Some why → (b ≡ false) × (Enotempty ≡ why)

@@ -1,5 +1,5 @@
 -- The nodes in which an entry moved, and how a directory is put for it.
-use Rattle.std.proofs.Common.{◌≡◌, ◌≢◌, inl, inr, ℕ, List, length, take, Option, Some, None, IsSome, refl, ap, ◌∙◌, sym, subst}
+use Rattle.std.proofs.Common.{◌≡◌, ◌≢◌, inl, inr, ℕ, ◌≤◌, List, length, take, Option, Some, None, IsSome, refl, ap, ◌∙◌, sym, subst}
 use Rattle.std.specs.FinMap.{get, insert, nat_cmp-IsAntisymmetric, same_map}
 use Rattle.std.proofs.lemmas.Bool.Decides.{eqb_tells}
 use Rattle.std.proofs.lemmas.Cmp.{nat_cmp_total}
@@ -69,6 +69,7 @@ module _ (source : Source) (name : List ℕ) (target : Target) (to_name : List �
 
     pub moves_within : (change : DirectoryChange) (size : ℕ) → length source.parent.bytes.items ≡ size → Edits (λ es. with_entry to_name source.number (without_entry name es)) source.parent change → IsNoLongerIf to_name source.parent change
         → PutsSized size change target.number before after
+    unfolding relinks_of
     moves_within change size is edits less =
         let es = moves.entries in
         let f = λ (fs : List Entry). with_entry to_name source.number (without_entry name fs) in
@@ -90,6 +91,7 @@ module _ (source : Source) (name : List ℕ) (target : Target) (to_name : List �
 
     pub moves_across : (left joined : DirectoryChange) (size to_size : ℕ) → length source.parent.bytes.items ≡ size → length target.parent.bytes.items ≡ to_size → Edits (without_entry name) source.parent left → IsNoLonger source.parent left
         → Edits (with_entry to_name source.number) target.parent joined → IsNoLongerIf to_name target.parent joined → PutsBothSized size left to_size joined target.number before after
+    unfolding relinks_of
     moves_across left joined size to_size is to_is edits less to_edits to_less =
         let between = insert before source.parent.number (Directory (without_entry name moves.entries)) in
         record {
