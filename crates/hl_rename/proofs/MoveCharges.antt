@@ -43,6 +43,9 @@ module _ {M : Type 0} (v : StoreValue M) (over : Bool) where
   abbrev pub IsOver : Growth → Type 0
   IsOver growth = (after : ℕ) → Grows growth v.tally.charge after → over ≡ exceeds (quota (layout v)) v.tally.charge after
 
+  pub told_over : (result : Bool) (growth is : Growth) → growth ≡ is → ((after : ℕ) → Grows growth v.tally.charge after → result ≡ exceeds (quota (layout v)) v.tally.charge after) → result ≡ over → IsOver is
+  told_over result growth is same says so after grows = sym so ∙ says after (subst (λ (g : Growth). Grows g v.tally.charge after) (sym same) grows)
+
   -- IT TELLS THE QUOTA where one directory is put
   pub tells_one : (size : ℕ) (change : DirectoryChange) (target : Option ℕ) → IsOver (put_growth size (length change.bytes.items)) → TellsQuota v (PutsSized size change target) over
   tells_one size change target is before after charge sized =
