@@ -4,6 +4,7 @@ use Rattle.std.specs.Prelude.{◌&&◌, Bool}
 use Rattle.std.specs.Ordering.{eq_by_cmp}
 use Rattle.hl_media.specs.History.{History, state_now}
 use Rattle.hl_media.specs.Moments.{Runs}
+use Rattle.hl_media.proofs.Runs.{starts}
 use Rattle.hl_addr.specs.Layout.{quota}
 use Rattle.hl_log.specs.Logs.{OnlyReads}
 use Rattle.hl_log.specs.Rest.{IsUnchanged}
@@ -63,18 +64,20 @@ moves_by limits from to name to_name name_is to_name_is numbered after source ta
 
 module _ {M : Type 0} (history : M → Option History) (faults : M → ℕ) (old : StoreValue M) (now : ℕ) (from to : List (List ℕ)) where
   -- AT ONCE: a path that is too long, and the root
-  module _ (run : Runs (history old.log.machine) (history old.log.machine) IsUnchanged) where
-    pub refused_long : is_too_long from ≡ true → MakesCall history faults old old now (calls.Rename from to) (step.Done (replies.Refused Enametoolong))
-    refused_long long = ends_refused history old old run (reads_nothing history old) faults now (calls.Rename from to) Enametoolong
-        (λ h told c lies shelf numbered shows knows placed. rename_from_long (site_limits (layout old)) numbered from to long)
+  at_once : Runs (history old.log.machine) (history old.log.machine) IsUnchanged
+  at_once = starts (history old.log.machine) IsUnchanged (λ h e. refl)
 
-    pub refused_to_long : is_too_long from ≡ false → is_too_long to ≡ true → MakesCall history faults old old now (calls.Rename from to) (step.Done (replies.Refused Enametoolong))
-    refused_to_long short long = ends_refused history old old run (reads_nothing history old) faults now (calls.Rename from to) Enametoolong
-        (λ h told c lies shelf numbered shows knows placed. rename_to_long (site_limits (layout old)) numbered from to short long)
+  pub refused_long : is_too_long from ≡ true → MakesCall history faults old old now (calls.Rename from to) (step.Done (replies.Refused Enametoolong))
+  refused_long long = ends_refused history old old at_once (reads_nothing history old) faults now (calls.Rename from to) Enametoolong
+      (λ h told c lies shelf numbered shows knows placed. rename_from_long (site_limits (layout old)) numbered from to long)
 
-    pub refused_root : is_too_long from ≡ false → is_too_long to ≡ false → nat_eq (length from) 0 ≡ true → MakesCall history faults old old now (calls.Rename from to) (step.Done (replies.Refused Einval))
-    refused_root short to_short root = ends_refused history old old run (reads_nothing history old) faults now (calls.Rename from to) Einval
-        (λ h told c lies shelf numbered shows knows placed. rename_root (site_limits (layout old)) numbered from to short to_short root)
+  pub refused_to_long : is_too_long from ≡ false → is_too_long to ≡ true → MakesCall history faults old old now (calls.Rename from to) (step.Done (replies.Refused Enametoolong))
+  refused_to_long short long = ends_refused history old old at_once (reads_nothing history old) faults now (calls.Rename from to) Enametoolong
+      (λ h told c lies shelf numbered shows knows placed. rename_to_long (site_limits (layout old)) numbered from to short long)
+
+  pub refused_root : is_too_long from ≡ false → is_too_long to ≡ false → nat_eq (length from) 0 ≡ true → MakesCall history faults old old now (calls.Rename from to) (step.Done (replies.Refused Einval))
+  refused_root short to_short root = ends_refused history old old at_once (reads_nothing history old) faults now (calls.Rename from to) Einval
+      (λ h told c lies shelf numbered shows knows placed. rename_root (site_limits (layout old)) numbered from to short to_short root)
 
   module _ (short : is_too_long from ≡ false) (to_short : is_too_long to ≡ false) (some : nat_eq (length from) 0 ≡ false) where
     -- NOTHING STANDS at the path
