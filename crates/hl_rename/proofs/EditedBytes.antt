@@ -1,13 +1,13 @@
 -- The bytes of a directory once an entry is taken out, put in, or both.
-use Rattle.std.proofs.Common.{arith, ◌≡◌, ℕ, ◌+◌, ◌≤◌, Bool, true, false, List, length, take, cond, is_some, Option, Some, None, IsSome, refl, ap, ◌∙◌, sym, subst}
+use Rattle.std.proofs.Common.{arith, ◌≡◌, ℕ, ◌+◌, ◌≤◌, Bool, true, false, List, length, take, cond, is_some, Option, None, IsSome, refl, ap, ◌∙◌, sym, subst}
 use Rattle.std.proofs.lemmas.List.{take-take}
 use Rattle.hl_dir.specs.declared.entry.Entry.{Entry}
 use Rattle.hl_dir.specs.Dirs.{Spells}
-use Rattle.hl_paths.specs.Entries.{entry_number, with_entry, without_entry}
+use Rattle.hl_paths.specs.Entries.{entry_number, without_entry}
 use Rattle.hl_paths.specs.Links.{same_name}
 use Rattle.hl_paths.proofs.Entries.{AreWith-without_entry}
 use Rattle.hl_paths.proofs.Links.{name_is}
-use Rattle.hl_entries.specs.Places.{Become, IfSpells, entry_growth}
+use Rattle.hl_entries.specs.Places.{Become, entry_growth}
 
 -- bytes that are the same up to one place are up to each place before it
 pub same_before : (place from : ℕ) (new old : List ℕ) → from ≤ place → take place new ≡ take place old → take from new ≡ take from old

@@ -1,7 +1,6 @@
 -- What is found of the two ends of a rename.
-use Rattle.std.proofs.Common.{arith, ◌≡◌, ℕ, ◌+◌, ◌<◌, ◌≤◌, Bool, true, false, not, nat_eq, List, [], ◌∷◌, ◌++◌, length, Option, Some, None, Result, Ok, Err, refl, ap, ◌∙◌, sym, subst, length-append}
+use Rattle.std.proofs.Common.{arith, ◌≡◌, ℕ, ◌<◌, ◌≤◌, Bool, true, false, not, nat_eq, List, [], ◌∷◌, ◌++◌, length, Option, Some, None, Result, Ok, Err, refl, ap, ◌∙◌, sym, subst, length-append}
 use Rattle.std.specs.Prelude.{if◌then◌else◌}
-use Rattle.std.specs.Option.{ForSome}
 use Rattle.std.specs.FinMap.{get}
 use Rattle.std.proofs.lemmas.Bool.Decides.{nat_tests}
 use Rattle.hl_media.specs.History.{History}
@@ -14,14 +13,13 @@ use Rattle.hl_tree.specs.declared.call.Refusal.{Refusal}
 use Rattle.hl_tree.specs.declared.call.Refusal.TheVariants.{Eisdir, Enoent, Enotdir, Enotempty}
 use Rattle.hl_tree.specs.Refusals.{◌>>=◌, refused_if}
 use Rattle.hl_dir.specs.declared.entry.Entry.{Entry}
-use Rattle.hl_dir.specs.Dirs.{Spells, dir_bytes, entry_bytes}
+use Rattle.hl_dir.specs.Dirs.{dir_bytes, entry_bytes}
 use Rattle.hl_placed.specs.Blocks.{PlacedFile}
 use Rattle.hl_paths.specs.ByNumbers.{is_directory_node, may_replace}
 use Rattle.hl_paths.specs.Entries.{entry_number}
 use Rattle.hl_paths.specs.Finding.{Parent, find_parent, last_name, named, parent_with}
-use Rattle.hl_paths.specs.Numbered.{Directory, Leaf, NumberedNode, Numbering}
+use Rattle.hl_paths.specs.Numbered.{NumberedNode, Numbering}
 use Rattle.hl_paths.proofs.Links.{none_some, true_false}
-use Rattle.hl_nodes.specs.Contents.{Contents}
 use Rattle.hl_entries.specs.Places.{IfSpells}
 use Rattle.hl_store.specs.declared.answers.Node.{Node}
 use Rattle.hl_store.specs.Values.{StoreValue}
@@ -40,8 +38,6 @@ use Rattle.hl_calls.specs.declared.step.FileStep.TheVariants as step
 use Rattle.hl_links.specs.Links.{StopsBefore, why_kept}
 use Rattle.hl_links.proofs.FoundLinks.{Stands, stands_before}
 use Rattle.hl_links.proofs.LinkedTrees.{shape_still}
-use Rattle.hl_rename.specs.declared.finding.Source.{Source}
-use Rattle.hl_rename.specs.declared.finding.Target.{Target}
 use Rattle.hl_rename.specs.RenameEnds.{HasNoSource, HasNoTarget, HasSource, HasTarget, halt_of, is_dir, source_in, standing, target_in}
 
 -- A NODE'S KIND is that of what stands under its number

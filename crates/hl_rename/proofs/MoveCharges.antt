@@ -1,7 +1,6 @@
 -- What the nodes are charged once directories are put and a number is free, and whether the quota allows it.
-use Rattle.std.proofs.Common.{arith, ◌≡◌, ℕ, ◌+◌, ◌≤◌, Bool, List, length, Option, Some, None, IsSome, refl, ap, ◌∙◌, sym, subst}
+use Rattle.std.proofs.Common.{arith, ◌≡◌, ℕ, ◌+◌, ◌≤◌, Bool, length, Option, Some, None, IsSome, refl, ap, ◌∙◌, sym, subst}
 use Rattle.hl_addr.specs.Layout.{quota}
-use Rattle.hl_dir.specs.Dirs.{dir_bytes}
 use Rattle.hl_placed.specs.Blocks.{PlacedFile}
 use Rattle.hl_paths.specs.Charges.{nodes_charge}
 use Rattle.hl_paths.specs.Numbered.{Numbering, without_number}

@@ -1,10 +1,10 @@
 -- The nodes in which an entry moved, and how a directory is put for it.
-use Rattle.std.proofs.Common.{◌≡◌, ◌≢◌, inl, inr, ℕ, ◌≤◌, List, length, take, Option, Some, None, IsSome, refl, ap, ◌∙◌, sym, subst}
+use Rattle.std.proofs.Common.{◌≡◌, ◌≢◌, inl, inr, ℕ, ◌≤◌, List, length, take, Option, Some, IsSome, ap, ◌∙◌, sym, subst}
 use Rattle.std.specs.FinMap.{get, insert, nat_cmp-IsAntisymmetric, same_map}
 use Rattle.std.proofs.lemmas.Bool.Decides.{eqb_tells}
 use Rattle.std.proofs.lemmas.Cmp.{nat_cmp_total}
 use Rattle.hl_dir.specs.declared.entry.Entry.{Entry}
-use Rattle.hl_dir.specs.Dirs.{Spells, dir_bytes}
+use Rattle.hl_dir.specs.Dirs.{Spells}
 use Rattle.hl_placed.specs.Blocks.{PlacedFile}
 use Rattle.hl_paths.specs.ByNumbers.{entries_or_none, with_entries}
 use Rattle.hl_paths.specs.Entries.{entry_number, with_entry, without_entry}
@@ -16,7 +16,7 @@ use Rattle.hl_links.specs.Links.{Relinks}
 use Rattle.hl_rename.specs.declared.finding.Source.{Source}
 use Rattle.hl_rename.specs.declared.finding.Target.{Target}
 use Rattle.hl_rename.specs.Edits.{Edits, IsNoLonger, IsNoLongerIf}
-use Rattle.hl_rename.specs.Moves.{HadSize, Moves, PutsBothSized, PutsOne, PutsSized, PutsTwo}
+use Rattle.hl_rename.specs.Moves.{HadSize, Moves, PutsBothSized, PutsSized}
 
 -- what is put under a number stays until something else is
 insert_twice : (nodes : Numbering PlacedFile) (number : ℕ) (one other : NumberedNode PlacedFile) → insert (insert nodes number one) number other ≡ insert nodes number other

@@ -1,9 +1,9 @@
 -- A store through what is prepared, put and freed for a move.
-use Rattle.std.proofs.Common.{arith, ◌≡◌, ◌≢◌, inl, inr, ℕ, ◌+◌, ◌/◌, ◌<◌, ◌≤◌, Bool, List, length, Option, Some, None, IsSome, option_map, refl, ap, ◌∙◌, sym, subst}
+use Rattle.std.proofs.Common.{arith, ◌≡◌, inl, inr, ℕ, ◌+◌, ◌/◌, ◌<◌, ◌≤◌, List, length, Option, Some, None, IsSome, option_map, refl, ap, ◌∙◌, sym, subst}
 use Rattle.std.specs.Prelude.{slice_index}
 use Rattle.std.specs.Option.{ForSome}
 use Rattle.std.proofs.lemmas.Bool.Decides.{eqb_tells}
-use Rattle.hl_media.specs.History.{History, MachineState}
+use Rattle.hl_media.specs.History.{History}
 use Rattle.hl_media.specs.Moments.{Runs}
 use Rattle.hl_media.proofs.Runs.{starts}
 use Rattle.hl_addr.specs.Layout.{Layout}
@@ -12,7 +12,6 @@ use Rattle.hl_log.specs.Rest.{IsUnchanged}
 use Rattle.hl_placed.specs.Blocks.{PlacedFile, blocks_of}
 use Rattle.hl_paths.specs.Numbered.{Numbering, without_number}
 use Rattle.hl_paths.proofs.Nodes.{some_of}
-use Rattle.hl_nodes.specs.Contents.{Contents}
 use Rattle.hl_overlay.specs.declared.draft.NodeDraft.{NodeDraft}
 use Rattle.hl_overlay.specs.DraftTables.{draft_of}
 use Rattle.hl_store.specs.Values.{StoreValue, layout}

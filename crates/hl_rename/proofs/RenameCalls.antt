@@ -1,5 +1,5 @@
 -- How a rename ends.
-use Rattle.std.proofs.Common.{arith, ◌≡◌, ℕ, ◌≤◌, true, false, nat_eq, List, [], length, is_some, Option, Ok, Err, refl, ap, ◌∙◌, sym, subst}
+use Rattle.std.proofs.Common.{◌≡◌, ℕ, true, false, nat_eq, List, length, is_some, Option, Ok, refl, ap, ◌∙◌, sym, subst}
 use Rattle.std.specs.Prelude.{◌&&◌, Bool}
 use Rattle.std.specs.Ordering.{eq_by_cmp}
 use Rattle.hl_media.specs.History.{History, state_now}
@@ -18,27 +18,25 @@ use Rattle.hl_tree.specs.Names.{below, is_too_long, path_cmp}
 use Rattle.hl_placed.specs.Blocks.{PlacedFile, Shelf}
 use Rattle.hl_paths.specs.ByNumbers.{renamed_nodes}
 use Rattle.hl_paths.specs.Charges.{nodes_charge}
-use Rattle.hl_paths.specs.Entries.{entry_number, with_entry, without_entry}
+use Rattle.hl_paths.specs.Entries.{entry_number}
 use Rattle.hl_paths.specs.Finding.{last_name}
 use Rattle.hl_paths.specs.Numbered.{Numbering}
-use Rattle.hl_nodes.specs.Contents.{Contents}
 use Rattle.hl_store.specs.Values.{StoreValue, layout}
-use Rattle.hl_store.specs.Lying.{LiesOver}
 use Rattle.hl_store.specs.Finding.{ReadsNodes}
 use Rattle.hl_store.proofs.ReadRuns.{reads_then, rose_since}
 use Rattle.hl_walk.specs.declared.walk.Halt.{Halt}
 use Rattle.hl_walk.specs.declared.walk.Halt.TheVariants as halt
-use Rattle.hl_walk.specs.Trees.{KnowsTree, OfTree}
+use Rattle.hl_walk.specs.Trees.{OfTree}
 use Rattle.hl_walk.specs.Walks.{Halts}
 use Rattle.hl_walk.proofs.KeptTrees.{layout_kept, of_tree_before, reads_both, reads_nothing}
 use Rattle.hl_calls.specs.declared.step.FileStep.{FileStep}
 use Rattle.hl_calls.specs.declared.step.FileStep.TheVariants as step
 use Rattle.hl_calls.specs.Calls.{MakesCall, done_by, halted_step, is_over}
 use Rattle.hl_calls.specs.Growths.{exceeds}
-use Rattle.hl_calls.specs.Trees.{OfFiles, site_limits}
+use Rattle.hl_calls.specs.Trees.{site_limits}
 use Rattle.hl_calls.proofs.Ends.{ends_answered, ends_refused, ends_without_space}
 use Rattle.hl_calls.proofs.Quotas.{is_over_quota-taken, tally_charge-tree}
-use Rattle.hl_links.proofs.ChangedCalls.{IsByRules, ends_changed, ends_stopped_since}
+use Rattle.hl_links.proofs.ChangedCalls.{ends_changed, ends_stopped_since}
 use Rattle.hl_links.proofs.FoundLinks.{parent_there}
 use Rattle.hl_links.proofs.StoppedCalls.{ends_halted}
 use Rattle.hl_rename.specs.declared.finding.Source.{Source}

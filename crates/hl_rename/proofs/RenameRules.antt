@@ -1,5 +1,5 @@
 -- The rules of a rename, by what is found of its two ends.
-use Rattle.std.proofs.Common.{◌≡◌, ℕ, Bool, true, false, nat_eq, List, [], length, is_some, Option, Some, None, Result, Ok, Err, refl, ap, ◌∙◌, sym}
+use Rattle.std.proofs.Common.{◌≡◌, ℕ, true, false, nat_eq, List, length, is_some, Option, Some, None, Result, Ok, Err, refl, ap, ◌∙◌}
 use Rattle.std.specs.Prelude.{◌&&◌}
 use Rattle.std.specs.Ordering.{eq_by_cmp}
 use Rattle.hl_inode.specs.declared.inode.Kind.{Kind}

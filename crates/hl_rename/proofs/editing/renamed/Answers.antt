@@ -1,5 +1,4 @@
-use Rattle.std.proofs.Common.{List, refl}
-use Rattle.hl_dir.specs.declared.entry.Entry.{Entry}
+use Rattle.std.proofs.Common.{refl}
 use Rattle.hl_paths.specs.Entries.{with_entry, without_entry}
 use Rattle.hl_rename.proofs.EditedBytes.{become_both, renamed_size, same_through}
 use Rattle.hl_rename.proofs.editing.renamed.Goals as goal

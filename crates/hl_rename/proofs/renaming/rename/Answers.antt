@@ -1,4 +1,4 @@
-use Rattle.std.proofs.Common.{◌≡◌, ℕ, ◌-◌, true, false, List, length, is_some, Some, None, ap, ◌∙◌, sym, subst}
+use Rattle.std.proofs.Common.{◌≡◌, ℕ, ◌-◌, false, List, length, is_some, Some, None, ap, ◌∙◌, sym, subst}
 use Rattle.std.specs.Prelude.{◌&&◌, slice_get}
 use Rattle.std.specs.Ordering.{eq_by_cmp}
 use Rattle.hl_tree.specs.declared.call.Call.TheVariants as calls
