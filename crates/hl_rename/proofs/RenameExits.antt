@@ -1,21 +1,20 @@
 -- How a rename ends by numbers: one lemma an exit.
-use Rattle.std.proofs.Common.{◌≡◌, ℕ, Bool, true, false, if◌then◌else◌, nat_eq, List, [], length, Option, Some, None, Result, Ok, Err, refl, ap, ◌∙◌, sym, subst, is_some, not}
+use Rattle.std.proofs.Common.{◌≡◌, ℕ, Bool, true, false, if◌then◌else◌, nat_eq, List, length, Option, Some, None, Ok, Err, refl, ap, ◌∙◌, is_some}
 use Rattle.std.specs.Prelude.{◌&&◌}
-use Rattle.std.specs.FinMap.{get, insert}
+use Rattle.std.specs.FinMap.{get}
 use Rattle.std.specs.Ordering.{eq_by_cmp}
 use Rattle.hl_tree.specs.declared.call.Limits.{Limits}
 use Rattle.hl_tree.specs.declared.call.Reply.TheVariants as replies
 use Rattle.hl_tree.specs.declared.call.Refusal.{Refusal}
-use Rattle.hl_tree.specs.declared.call.Refusal.TheVariants.{Enoent, Eexist, Enotdir, Eisdir, Enotempty, Einval, Enametoolong, Einodes}
+use Rattle.hl_tree.specs.declared.call.Refusal.TheVariants.{Enoent, Einval, Enametoolong}
 use Rattle.hl_tree.specs.Names.{below, is_too_long, path_cmp}
 use Rattle.hl_tree.specs.Refusals.{◌>>=◌, refused_if}
 use Rattle.hl_dir.specs.declared.entry.Entry.{Entry}
 use Rattle.hl_placed.specs.Blocks.{PlacedFile}
-use Rattle.hl_paths.specs.Entries.{entry_names, entry_number, with_entry}
-use Rattle.hl_paths.specs.Numbered.{Directory, Leaf, NumberedNode, Numbering}
-use Rattle.hl_paths.specs.Finding.{Parent, entries_in, find_number, find_parent, last_name, leaf_in, named, parent_with}
-use Rattle.hl_paths.specs.Free.{lowest_free}
-use Rattle.hl_paths.specs.ByNumbers.{NumberedDone, at_number, found_free, gone, is_directory_node, list_by_numbers, make_by_numbers, may_replace, onto_root, rename_by_numbers, renamed_nodes, rmdir_by_numbers, stat_by_numbers, unlink_by_numbers}
+use Rattle.hl_paths.specs.Entries.{entry_number}
+use Rattle.hl_paths.specs.Numbered.{Numbering}
+use Rattle.hl_paths.specs.Finding.{find_parent, last_name, named, parent_with}
+use Rattle.hl_paths.specs.ByNumbers.{NumberedDone, at_number, is_directory_node, may_replace, onto_root, rename_by_numbers, renamed_nodes}
 use Rattle.hl_calls.proofs.Chains.{goes_on, passes, refuses, stays_refused}
 
 -- A RENAME

@@ -4,6 +4,9 @@
 //! the first change.
 #![tactic(auto)]
 
+mod editing;
+mod finding;
+mod moving;
 mod renaming;
 
 pub use renaming::rename;
