@@ -1,7 +1,7 @@
 //! The making of a site on a disk in memory, of which only its answer and images are seen.
 
 use crate::sites::{Site, disk_blocks, label};
-use hl_addr::{Geometry, Numbers};
+use hl_addr::Geometry;
 use hl_bytes::BLOCK;
 use hl_found::files_of;
 use hl_inode::{Inode, decode};
@@ -28,8 +28,8 @@ pub enum Found {
 /// A site whose making may be stopped at each moment. What is done with one through this trait sees nothing of its parts,
 /// so that a proof doesn't carry them.
 pub trait Makeable: Sized {
-    /// Makes a site on a disk of these bytes, as many of them as the site has blocks, or else of bytes that are all the
-    /// same, where the call of this number fails.
+    /// Makes a site on a disk that begins with these bytes and goes on with bytes that are all the same, where the call of
+    /// this number fails.
     fn make(
         alloc: Global,
         site: Site,
@@ -73,7 +73,7 @@ impl Model for Trial {
     ghost view = { λ _. tt };
 }
 
-/// A disk for a site: with these bytes, where they are enough for it, and else with bytes that are all the same.
+/// A disk for a site: these bytes at first, and then bytes that are all the same.
 fn disk_of(
     alloc: Global,
     geometry: &Geometry,
@@ -119,7 +119,7 @@ fn is_root(tree: &PlainTree) -> bool {
 }
 
 impl Trial {
-    /// A block of the disk as it is now.
+    /// The disk as it is now.
     fn last_image(&self, alloc: Global) -> Result<Vec<u8>, AllocError> {
         self.machine
             .stop_image(alloc, self.machine.now(), Tear::New)
