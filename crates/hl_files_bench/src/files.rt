@@ -61,10 +61,7 @@ fn path_of(alloc: Global, file: u32) -> Result<Path, AllocError> {
 
 /// Whether a call is done.
 fn is_done<M: Machine>(alloc: Global, store: &mut Store<M>, now: u64, made: &Call) -> bool {
-    matches!(
-        call(store, alloc, now, made),
-        FileStep::Done(Reply::Ok)
-    )
+    matches!(call(store, alloc, now, made), FileStep::Done(Reply::Ok))
 }
 
 /// Makes what was done last, and frees segments where few are clean; whether that succeeded.

@@ -35,27 +35,34 @@ fn make_lines<T: Filed + Drop>(rt: &impl Abort, alloc: Global, plan: Plan) -> Re
     Ok(full)
 }
 
+/// Many small files on a site that they fill.
+fn fills_the_site(rt: &impl Abort, alloc: Global, seed: u64) -> Result<(), Fail> {
+    let plan = Plan {
+        site: Site::Small,
+        mix: Mix {
+            names: 9,
+            long: 6,
+            size: 90_000,
+            end: 200_000,
+            bytes: 9_000,
+        },
+        seed,
+        lines: 900,
+        pace: 100,
+    };
+    let full = make_lines::<FilesTrial>(rt, alloc, plan)?;
+    assert!(rt; 0 < full);
+    Ok(())
+}
+
 #[test]
 fn drawn_lines_are_answered_as_plain_files_answer(rt: HostRuntime) -> Result<(), Fail> {
-    let mix = Mix {
-        names: 9,
-        long: 6,
-        size: 90_000,
-        end: 200_000,
-        bytes: 9_000,
-    };
-    for seed in 1..3 {
-        let plan = Plan {
-            site: Site::Small,
-            mix,
-            seed,
-            lines: 300,
-            pace: 40,
-        };
-        let full = make_lines::<FilesTrial>(&rt, rt.alloc(), plan)?;
-        assert!(rt; 0 < full);
-    }
-    Ok(())
+    fills_the_site(&rt, rt.alloc(), 1)
+}
+
+#[test]
+fn other_drawn_lines_are_too(rt: HostRuntime) -> Result<(), Fail> {
+    fills_the_site(&rt, rt.alloc(), 2)
 }
 
 #[test]
@@ -70,8 +77,8 @@ fn long_files_are_read_and_cut(rt: HostRuntime) -> Result<(), Fail> {
             bytes: 65_536,
         },
         seed: 3,
-        lines: 200,
-        pace: 60,
+        lines: 400,
+        pace: 100,
     };
     make_lines::<FilesTrial>(&rt, rt.alloc(), plan)?;
     Ok(())
@@ -89,8 +96,8 @@ fn few_numbers_are_given_again(rt: HostRuntime) -> Result<(), Fail> {
             bytes: 3_000,
         },
         seed: 4,
-        lines: 300,
-        pace: 50,
+        lines: 900,
+        pace: 100,
     };
     make_lines::<FilesTrial>(&rt, rt.alloc(), plan)?;
     Ok(())
