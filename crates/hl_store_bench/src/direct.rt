@@ -1,5 +1,7 @@
 //! Blocks written, synced and read on a disk without a store.
 
+ghost use Rattle.std.specs.Prelude.{◌+◌, ◌≤◌, IsTrue};
+
 use crate::counted::{Calls, Counted};
 use hl_bytes::{BLOCK, SegBuf};
 use hl_media::{Machine, write_synced};
@@ -36,38 +38,52 @@ impl Shape {
 }
 
 /// Whether a disk has so many blocks from one on.
-fn has_blocks<M: Machine>(machine: &M, at: u32, count: u32) -> bool {
+fn has_blocks<M: Machine>(machine: &M, at: u32, count: u32) -> bool
+    ensures { IsTrue result → at + count ≤ M.blocks machine.now }
+{
     match at.checked_add(count) {
         Some(end) => end <= machine.blocks(),
         None => false,
     }
 }
 
+/// Puts the block of a mark into a buffer, if it has that block.
+fn put_mark(buf: &mut SegBuf, i: u32, mark: u32) {
+    if i < buf.blocks() {
+        let bytes = Plain::Filled(mark).bytes();
+        buf.block_mut(i).copy_from_slice(&bytes);
+    }
+}
+
 /// Puts blocks of the marks from one on into the first blocks of a buffer.
 fn fill(buf: &mut SegBuf, count: u32, mark: u32) {
-    for i in 0..count.min(buf.blocks()) {
-        let bytes = Plain::Filled(mark.wrapping_add(i)).bytes();
-        buf.block_mut(i).copy_from_slice(&bytes);
+    for i in 0..count.min(LONGEST) {
+        put_mark(buf, i, mark.wrapping_add(i));
     }
 }
 
 /// Writes a block of zeros, and a part behind it, each with a sync; whether that succeeded.
 fn write_part<M: Machine>(machine: &mut M, at: u32, length: u32, buf: &mut SegBuf) -> bool {
+    fill(buf, length, at);
     if LONGEST < length || buf.blocks() < length || !has_blocks(machine, at, 1 + length) {
         return false;
     }
-    fill(buf, length, at);
+    let behind = at.saturating_add(1);
     let zeros = [0; BLOCK];
     write_synced(machine, at, &zeros).is_ok()
-        && write_synced(machine, at + 1, buf.part(0, length)).is_ok()
+        && write_synced(machine, behind, buf.part(0, length)).is_ok()
+}
+
+/// Reads a block, if the disk has it; whether that succeeded.
+fn read_block<M: Machine>(machine: &mut M, at: u32) -> bool {
+    let mut bytes = [0; BLOCK];
+    has_blocks(machine, at, 1) && machine.read(at, &mut bytes).is_ok()
 }
 
 /// Reads so many blocks, one at a time; whether that succeeded.
 fn read_blocks<M: Machine>(machine: &mut M, count: u32) -> bool {
-    let mut bytes = [0; BLOCK];
     for i in 0..count {
-        let at = START.saturating_add(i);
-        if !has_blocks(machine, at, 1) || machine.read(at, &mut bytes).is_err() {
+        if !read_block(machine, START.saturating_add(i)) {
             return false;
         }
     }
