@@ -73,7 +73,8 @@ fn takes_turn<T: Stored>(
     blocks
 }
 
-/// Two units and a checkpoint in turn, until more blocks were written than the log has.
+/// Two units and a checkpoint in turn, until more blocks were written than the log has. What lasts is compared each fourth
+/// time.
 fn goes_round<T: Stored + Drop>(rt: &impl Abort, alloc: Global) -> Result<(), Fail> {
     let mut store = opened::<T>(rt, alloc, Site::Small, First::Root, &[])?;
     let mut blocks: u32 = 0;
@@ -86,7 +87,9 @@ fn goes_round<T: Stored + Drop>(rt: &impl Abort, alloc: Global) -> Result<(), Fa
             store.counted().clean == empty_segments(&store),
             "turn {turn}"
         );
-        lasts(rt, alloc, &mut store, nodes.as_slice())?;
+        if turn % 4 == 3 {
+            lasts(rt, alloc, &mut store, nodes.as_slice())?;
+        }
     }
     assert!(rt; 16 * 64 < blocks);
     Ok(())
