@@ -44,12 +44,12 @@ struct Depths {
 impl Depths {
     /// Closes the directories that are at a depth or below it.
     fn close(&mut self, depth: usize) {
-        while depth < self.bytes.as_slice().len() {
-            match self.bytes.pop() {
-                Some(bytes) => {
-                    self.charge = u64::saturating_add(self.charge, directory_charge(bytes));
-                }
-                None => return,
+        for _ in 0..self.bytes.as_slice().len() {
+            if self.bytes.as_slice().len() <= depth {
+                return;
+            }
+            if let Some(bytes) = self.bytes.pop() {
+                self.charge = u64::saturating_add(self.charge, directory_charge(bytes));
             }
         }
     }

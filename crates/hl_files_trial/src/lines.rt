@@ -26,6 +26,11 @@ impl Draws {
         high.checked_rem(end).unwrap_or(0)
     }
 
+    /// A byte.
+    pub fn byte(&mut self) -> u8 {
+        (self.below(256) % 256) as u8
+    }
+
     /// Whether something of so many turns comes up.
     pub fn one_in(&mut self, turns: u32) -> bool {
         self.below(turns) == 0
@@ -49,9 +54,9 @@ pub struct Mix {
 
 /// A name: a letter, or many.
 fn name_of(alloc: Global, draws: &mut Draws, mix: Mix) -> Result<List<u8>, AllocError> {
-    let letter = 97 + draws.below(mix.names.min(26)) as u8;
+    let letter = 97 + (draws.below(mix.names) % 26) as u8;
     let length = if draws.one_in(mix.long) {
-        200 + draws.below(57)
+        200 + draws.below(57) % 57
     } else {
         1
     };
@@ -62,7 +67,7 @@ fn name_of(alloc: Global, draws: &mut Draws, mix: Mix) -> Result<List<u8>, Alloc
 /// A path that stands in the tree, or the root.
 fn known_path(alloc: Global, draws: &mut Draws, beside: &Beside) -> Result<Path, AllocError> {
     let rows = beside.tree().rows();
-    let place = draws.below(rows.len() as u32) as usize;
+    let place = draws.below(rows.len().min(4_096) as u32) as usize;
     match rows.get(place) {
         Some((path, _)) => path.copy(alloc),
         None => Ok(Path::root(alloc)),
@@ -113,7 +118,7 @@ fn new_path(
 /// The size of the file at a path, in bytes; 0 where there is none.
 fn size_at(beside: &Beside, path: &Path) -> u32 {
     match beside.tree().get(path.names()) {
-        Some(Node::File(bytes)) => bytes.items().len() as u32,
+        Some(Node::File(bytes)) => bytes.items().len().min(4_243_456) as u32,
         _ => 0,
     }
 }
@@ -136,12 +141,12 @@ fn bytes_of(alloc: Global, draws: &mut Draws, mix: Mix) -> Result<List<u8>, Allo
         1 => 65_537,
         2 => 65_536,
         3 => 4_096,
-        _ => 1 + draws.below(mix.bytes),
+        _ => draws.below(mix.bytes).saturating_add(1),
     };
-    let byte = draws.below(256) as u8;
+    let byte = draws.byte();
     let mut bytes = vec![in alloc; byte; length as usize]?;
     if let Some(last) = bytes.as_mut_slice().last_mut() {
-        *last = draws.below(256) as u8;
+        *last = draws.byte();
     }
     Ok(List::of(bytes))
 }
