@@ -1,10 +1,10 @@
 //! Files made and written.
 
+use crate::words::Run;
 use hl_bytes::BLOCK;
-use hl_files::{FileStep, call};
+use hl_files::FileStep;
+use hl_files_trial::{Filed, Site};
 use hl_log::UnitAnswer;
-use hl_media::Machine;
-use hl_store::Store;
 use hl_tree::{Call, List, Path, Reply};
 use std::alloc::{AllocError, Global};
 use std::fmt;
@@ -60,28 +60,24 @@ fn path_of(alloc: Global, file: u32) -> Result<Path, AllocError> {
 }
 
 /// Whether a call is done.
-fn is_done<M: Machine>(alloc: Global, store: &mut Store<M>, now: u64, made: &Call) -> bool {
-    matches!(call(store, alloc, now, made), FileStep::Done(Reply::Ok))
+fn is_done<T: Filed>(alloc: Global, store: &mut T, now: u64, made: &Call) -> bool {
+    matches!(store.call(alloc, now, made), FileStep::Done(Reply::Ok))
 }
 
 /// Makes what was done last, and frees segments where few are clean; whether that succeeded.
-fn end_batch<M: Machine>(alloc: Global, store: &mut Store<M>) -> bool {
-    if !matches!(store.flush(alloc), UnitAnswer::Written { .. }) {
-        return false;
-    }
-    if FEW_CLEAN <= store.clean_count() {
-        return true;
-    }
-    if !store.is_tidy() {
-        return false;
-    }
-    matches!(store.checkpoint(alloc), UnitAnswer::Written { .. })
+fn end_batch<T: Filed>(alloc: Global, store: &mut T) -> bool {
+    let answer = if store.clean() < FEW_CLEAN {
+        store.checkpoint(alloc)
+    } else {
+        store.flush(alloc)
+    };
+    matches!(answer, UnitAnswer::Written { .. })
 }
 
 /// Writes the block of a file.
-fn write_file<M: Machine>(
+fn write_file<T: Filed>(
     alloc: Global,
-    store: &mut Store<M>,
+    store: &mut T,
     file: u32,
     byte: u8,
 ) -> Result<bool, AllocError> {
@@ -94,11 +90,7 @@ fn write_file<M: Machine>(
 }
 
 /// Makes a file of one block, and its directory before the first of it.
-fn make_file<M: Machine>(
-    alloc: Global,
-    store: &mut Store<M>,
-    file: u32,
-) -> Result<bool, AllocError> {
+fn make_file<T: Filed>(alloc: Global, store: &mut T, file: u32) -> Result<bool, AllocError> {
     if file % BATCH == 0 {
         let made = Call::Mkdir {
             path: directory_of(alloc, file)?,
@@ -117,11 +109,7 @@ fn make_file<M: Machine>(
 }
 
 /// Makes so many files of one block; whether each call was done.
-pub fn make_files<M: Machine>(
-    alloc: Global,
-    store: &mut Store<M>,
-    files: u32,
-) -> Result<bool, AllocError> {
+fn make_files<T: Filed>(alloc: Global, store: &mut T, files: u32) -> Result<bool, AllocError> {
     for file in 0..files {
         if !make_file(alloc, store, file)? {
             return Ok(false);
@@ -134,9 +122,9 @@ pub fn make_files<M: Machine>(
 }
 
 /// Writes the blocks of the files, one after another and again from the first on; whether each call was done.
-pub fn write_files<M: Machine>(
+fn write_files<T: Filed>(
     alloc: Global,
-    store: &mut Store<M>,
+    store: &mut T,
     files: u32,
     writes: u32,
 ) -> Result<bool, AllocError> {
@@ -150,4 +138,20 @@ pub fn write_files<M: Machine>(
         }
     }
     Ok(end_batch(alloc, store))
+}
+
+/// Makes the files and the writes of a run on a new site, and answers what that came to; none where a call wasn't done.
+pub fn run_files<T: Filed + Drop>(alloc: Global, run: Run) -> Result<Option<Counts>, AllocError> {
+    let Run { files, writes } = run;
+    let Some(mut store) = T::first(alloc, Site::Many)? else {
+        return Ok(None);
+    };
+    if !make_files(alloc, &mut store, files)? || !write_files(alloc, &mut store, files, writes)? {
+        return Ok(None);
+    }
+    Ok(Some(Counts {
+        files,
+        writes,
+        charge: store.charge(),
+    }))
 }

@@ -3,14 +3,13 @@
 #![tactic(auto)]
 
 mod files;
-mod site;
 mod words;
 
-use files::{Counts, make_files, write_files};
-use site::{Opened, new_store};
+use files::{Counts, run_files};
+use hl_files_trial::FilesTrial;
 use std::alloc::AllocError;
 use std::process::ExitCode;
-use words::{Run, run_of, words};
+use words::{run_of, words};
 
 /// Does the run that the words after the program's name ask for, on a site in memory, and says what it came to. Ends with 1
 /// where a call wasn't done or memory was wanting.
@@ -26,17 +25,6 @@ fn main(rt: HostRuntime) -> ExitCode {
 
 /// Makes the files and the writes of the run; none where a call wasn't done.
 fn counts_of(rt: HostRuntime) -> Result<Option<Counts>, AllocError> {
-    let alloc = rt.alloc();
-    let Run { files, writes } = run_of(words(rt)?.as_slice());
-    let Some(mut store) = new_store(alloc)? else {
-        return Ok(None);
-    };
-    if !make_files(alloc, &mut store, files)? || !write_files(alloc, &mut store, files, writes)? {
-        return Ok(None);
-    }
-    Ok(Some(Counts {
-        files,
-        writes,
-        charge: store.charge(),
-    }))
+    let run = run_of(words(rt)?.as_slice());
+    run_files::<FilesTrial>(rt.alloc(), run)
 }

@@ -1,13 +1,17 @@
 //! A store of a site on a disk in memory, on which file calls are made.
 
+ghost use Rattle.std.specs.Prelude.{◌≤◌};
+ghost use Rattle.hl_log.specs.Logs.{site_blocks};
+
 use crate::sites::Site;
-use hl_bytes::BLOCK;
+use hl_addr::Geometry;
 use hl_files::{FileStep, FoundPath, call, find};
 use hl_found::files_of;
 use hl_log::UnitAnswer;
 use hl_mem::{MemMachine, Tear};
+use hl_mkfs::mkfs;
 use hl_store::{NodeFound, Store};
-use hl_store_trial::{First, disk_blocks, image_of, is_number, open_over};
+use hl_store_trial::{disk_blocks, is_number, open_over};
 use hl_tree::{Call, Path, PlainTree};
 use std::alloc::{AllocError, Global};
 use std::marker::Model;
@@ -36,8 +40,8 @@ pub trait Filed {
     /// The files of the disk; none where it has none.
     fn files(&self, alloc: Global) -> Result<Option<PlainTree>, AllocError>;
 
-    /// How many calls were made of the disk.
-    fn calls(&self) -> u64;
+    /// How many log segments are clean.
+    fn clean(&self) -> u32;
 }
 
 /// A store. Contracts see nothing of it.
@@ -52,17 +56,27 @@ impl Model for FilesTrial {
     ghost view = { λ _. tt };
 }
 
+/// A disk of so many blocks on which a site was made; none where it couldn't be made.
+fn new_disk(alloc: Global, site: &Geometry, blocks: u32) -> Result<Option<MemMachine>, AllocError>
+    requires { site_blocks site.now ≤ blocks }
+{
+    let machine = MemMachine::new(alloc, blocks)?;
+    match mkfs(alloc, machine, site) {
+        Ok(machine) => Ok(Some(machine)),
+        Err(_) => Ok(None),
+    }
+}
+
 impl Filed for FilesTrial {
     fn first(alloc: Global, site: Site) -> Result<Option<FilesTrial>, AllocError> {
         let site = site.geometry(alloc)?;
         let Some(blocks) = disk_blocks(&site) else {
             return Ok(None);
         };
-        let image = image_of(alloc, &site, First::Root)?;
-        if image.len() != BLOCK * blocks as usize {
+        let Some(machine) = new_disk(alloc, &site, blocks)? else {
             return Ok(None);
-        }
-        let machine = MemMachine::of_image(alloc, image.as_slice())?;
+        };
+        let image = machine.stop_image(alloc, machine.now(), Tear::New)?;
         match open_over(alloc, &site, image.as_slice(), machine)? {
             Some(store) => Ok(Some(FilesTrial { store })),
             None => Ok(None),
@@ -110,7 +124,7 @@ impl Filed for FilesTrial {
         files_of(alloc, image.as_slice(), self.store.geometry(), &[])
     }
 
-    fn calls(&self) -> u64 {
-        self.store.machine().now() / 2
+    fn clean(&self) -> u32 {
+        self.store.clean_count()
     }
 }

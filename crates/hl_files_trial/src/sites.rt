@@ -4,7 +4,7 @@ use hl_addr::{Geometry, Numbers};
 use hl_tree::Limits;
 use std::alloc::{AllocError, Global};
 
-/// A site of segments of 64 blocks, 13 lines and one volume of four slots.
+/// A site of segments of 64 blocks, 13 lines and one volume of four slots, made anew.
 #[derive(Clone, Copy, Debug, PartialEq, Eq)]
 pub enum Site {
     /// A quota of 64 blocks, and 511 numbers for nodes.
@@ -13,6 +13,8 @@ pub enum Site {
     Wide,
     /// A quota of 64 blocks, and 11 numbers for nodes.
     Few,
+    /// A quota of 4,288 blocks, and 2,047 numbers for nodes.
+    Many,
 }
 
 impl Site {
@@ -23,6 +25,7 @@ impl Site {
             Site::Small => (16, 512),
             Site::Wide => (80, 512),
             Site::Few => (16, 12),
+            Site::Many => (280, 2_048),
         };
         Geometry::new(64, log, 13, inodes, Numbers::of(slots)).ok_or(AllocError)
     }
@@ -32,6 +35,7 @@ impl Site {
         let nodes = match self {
             Site::Small | Site::Wide => 511,
             Site::Few => 11,
+            Site::Many => 2_047,
         };
         Limits {
             nodes,
@@ -44,6 +48,7 @@ impl Site {
         match self {
             Site::Small | Site::Few => 64,
             Site::Wide => 1_088,
+            Site::Many => 4_288,
         }
     }
 }
