@@ -6,8 +6,8 @@ ghost use Rattle.hl_media.specs.Moments.{Now};
 ghost use Rattle.hl_log.specs.Logs.{OnlyReads};
 ghost use Rattle.hl_super.specs.Labels.{layout_of};
 ghost use Rattle.hl_image.specs.Newest.{IsNewest};
-ghost use Rattle.hl_recovery.specs.Finding.{FindsLabel, FindsRecord, FitsOn, IsPlain, IsRecordOf};
-ghost use Rattle.hl_recovery.specs.Stops.{StopsBy};
+ghost use Rattle.hl_recovery.specs.Finding.{FindsLabel, FindsRecord, FitsOn, IsRecordOf};
+ghost use Rattle.hl_recovery.specs.Stops.{IsPlain, StopsBy};
 
 use crate::reading::read_block;
 use crate::stop::MountStop;

@@ -1,0 +1,3 @@
+pub mod ReadRuns
+pub mod SegmentReads
+pub mod RackLaws
