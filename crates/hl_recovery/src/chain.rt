@@ -56,8 +56,7 @@ pub(crate) fn find_chain<M: Machine>(
     ensures fault { MatchResult result (λ _. M.faults machine.new ≡ M.faults machine.old)
         (StopsBy (M.faults machine.old) (M.faults machine.new)) }
 {
-    let geometry = &site.geometry;
-    let mut held = none_held(alloc, geometry)?;
+    let mut held = none_held(alloc, &site.geometry)?;
     let mut parts = Vec::new(alloc);
     let mut at = LogPlace {
         seg: site.rec.seg,
@@ -69,7 +68,9 @@ pub(crate) fn find_chain<M: Machine>(
         at,
         serial,
     };
-    'walk: while let Some(summary) = next_part(alloc, machine, geometry, &mut held, at, serial)? {
+    'walk: while let Some(summary) =
+        next_part(alloc, machine, &site.geometry, &mut held, at, serial)?
+    {
         let ends = summary.ends;
         let next = LogPlace {
             seg: summary.next_seg,

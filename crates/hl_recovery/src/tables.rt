@@ -34,7 +34,7 @@ fn stands_before(addresses: &[u32], i: usize) -> bool
         ↔ ((j : ℕ) × (j < i) × (slice_index addresses.now j ≡ address)) }
 {
     let address = addresses[i];
-    'before: for j in 0..i {
+    'earlier: for j in 0..i {
         if addresses[j] == address {
             return true;
         }
