@@ -2,6 +2,7 @@
 use Rattle.std.proofs.Common.{◌≡◌, ℕ, zero, suc, ◌+◌, ◌-◌, ◌^◌, ◌<◌, ◌≤◌, Bool, true, false, List, [], ◌∷◌, ◌++◌, length, take, refl, sym, ◌∙◌, ap, subst, arith, length-append}
 use Rattle.std.specs.Prelude.{min, map, if◌then◌else◌}
 use Rattle.std.proofs.lemmas.List.{map-append, take-map, take_all, take-append-le, length-take-le}
+use Rattle.hl_media.specs.History.{Image}
 use Rattle.hl_addr.specs.Layout.{Layout}
 use Rattle.hl_super.specs.declared.record.Record.{Record}
 use Rattle.hl_summary.specs.declared.parts.Summary.{Summary}
@@ -9,11 +10,13 @@ use Rattle.hl_summary.specs.Parts.{IsSummary}
 use Rattle.hl_image.specs.declared.place.LogPlace.{LogPlace}
 use Rattle.hl_image.specs.declared.chain.ChainPart.{ChainPart}
 use Rattle.hl_image.specs.Places.{IsLogPlace}
-use Rattle.hl_image.specs.Parts.{next_of}
+use Rattle.hl_image.specs.Parts.{IsPart, NoPart, next_of}
 use Rattle.hl_image.specs.Chain.{end_of, placed}
 use Rattle.hl_image.specs.Newest.{start_of}
 use Rattle.hl_image.proofs.ChainLemmas.{next_place, end_of-append, placed-append}
-use Rattle.hl_found.specs.Found.{parts_found}
+use Rattle.hl_image.proofs.Walking.{Walked, walk_goes_on, walk_ends}
+use Rattle.hl_found.specs.Found.{AreChainParts, parts_found}
+use Rattle.hl_found.proofs.TablesFound.{chain_found}
 use Rattle.hl_recovery.specs.declared.chain.Chain.{Chain}
 use Rattle.hl_recovery.specs.declared.chain.Cut.{Cut}
 use Rattle.hl_recovery.specs.Chains.{AreSummaries, IsBehind}
@@ -48,7 +51,7 @@ take_placed at zero ps = refl
 take_placed at (suc n) [] = refl
 take_placed at (suc n) (p ∷ ps) = ap (λ (l : List ChainPart). record { seg = at.seg; block = at.block; summary = p } ∷ l) (take_placed (next_of p) n ps)
 
-length_found : (chain : List ChainPart) → length (parts_found chain) ≡ length chain
+pub length_found : (chain : List ChainPart) → length (parts_found chain) ≡ length chain
 length_found [] = refl
 length_found (p ∷ chain) = let e = length_found chain in omega arith
 
@@ -116,3 +119,37 @@ walk_cut g rec chain at serial cut w parts items_are at_is serial_is =
       at_is = at_is ∙ w.cut_at ∙ ap (end_of (start_of rec)) (sym found);
       serial_is = serial_is ∙ w.cut_serial ∙ ap (λ (n : ℕ). min (rec.serial + n) (2 ^ 64 - 1)) (sym long);
     }
+
+-- a walk is cut behind a part that ends a unit, and where it was behind others
+cut_closes : (ends : Bool) (new there before : Cut) → new ≡ (if ends then there else before) → ends ≡ true → new.count ≡ there.count
+cut_closes true new there before is e = ap (λ (x : Cut). x.count) is
+cut_closes false new there before is e = absurd cc
+
+cut_stays : (ends : Bool) (new there before : Cut) → new ≡ (if ends then there else before) → ends ≡ false → new.count ≡ before.count
+cut_stays true new there before is e = absurd cc
+cut_stays false new there before is e = ap (λ (x : Cut). x.count) is
+
+module _ (g : Layout) (start : LogPlace) (first : ℕ) (chain items : List ChainPart) (at : LogPlace) (serial : ℕ) (cut new there : Cut) (s : Summary)
+    (new_is : new ≡ (if s.ends then there else cut)) (count_is : there.count ≡ length chain + 1) (items_are : items ≡ chain ++ record { seg = at.seg; block = at.block; summary = s } ∷ []) where
+  -- what an image has of one more part
+  pub walked_more : (image : Image) → Walked g image start first chain cut.count at serial → IsPart g image at serial s → Walked g image start first items new.count (next_of s) (serial + 1)
+  walked_more image w here =
+      subst (λ (l : List ChainPart). Walked g image start first l new.count (next_of s) (serial + 1)) (sym items_are)
+      (walk_goes_on g image start first chain cut.count at serial w s here new.count (λ e. cut_closes s.ends new there cut new_is e ∙ count_is) (λ e. cut_stays s.ends new there cut new_is e))
+
+  -- what is so of one more part whatever the image
+  pub walking_on : there.at ≡ next_of s → there.serial ≡ min (serial + 1) (2 ^ 64 - 1) → Walking g start first chain at serial cut → IsSummary g at.seg at.block s → Walking g start first items (next_of s) (serial + 1) new
+  walking_on at_is serial_is w is =
+      let whole : there ≡ record { count = length chain + 1; at = next_of s; serial = min (serial + 1) (2 ^ 64 - 1) } =
+      ap (λ (n : ℕ). record there { count = n }) count_is
+      ∙ ap (λ (x : LogPlace). record there { count = length chain + 1; at = x }) at_is
+      ∙ ap (λ (n : ℕ). record there { count = length chain + 1; at = next_of s; serial = n }) serial_is in
+      subst (λ (l : List ChainPart). Walking g start first l (next_of s) (serial + 1) new) (sym items_are)
+      (walking_more g start first chain at serial cut w s is s.ends new (new_is ∙ ap (λ (x : Cut). if s.ends then x else cut) whole))
+
+-- the parts of the chain, where no part stands behind the walk
+pub found_cut : (g : Layout) (image : Image) (rec : Record) (chain items : List ChainPart) (at : LogPlace) (serial : ℕ) (cut : Cut) → Walked g image (start_of rec) rec.serial chain cut.count at serial → NoPart g image at serial
+    → items ≡ take cut.count chain → AreChainParts g image rec items
+found_cut g image rec chain items at serial cut w none items_are =
+    let ends = walk_ends g image (start_of rec) rec.serial chain cut.count at serial w none in
+    chain_found g image rec items ends.0 ends.1 (items_are ∙ ends.2)

@@ -79,7 +79,7 @@ pub(crate) fn find_site<M: Machine>(
         (StopsBy (M.faults machine.old) (M.faults machine.new)) }
 {
     let site = find_named(alloc, machine)?;
-    match first_other(site.geometry.volumes.items(), rack) {
+    match first_other(site.rec.volumes.items(), rack) {
         Some(volume) => Err(MountStop::WrongRack {
             volume,
             slots: slots_of(rack, volume),
