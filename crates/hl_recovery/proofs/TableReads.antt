@@ -6,6 +6,8 @@ use Rattle.hl_addr.specs.Layout.{Layout, IsWithinLimits}
 use Rattle.hl_super.specs.declared.record.Record.{Record}
 use Rattle.hl_summary.specs.declared.parts.Summary.{Summary}
 use Rattle.hl_image.specs.Places.{InLog, log_end}
+use Rattle.hl_image.specs.Chain.{IsCutChain}
+use Rattle.hl_image.specs.Newest.{start_of}
 use Rattle.hl_log.specs.Logs.{site_blocks}
 use Rattle.hl_tables.specs.Values.{TableValues, SameShape, fresh}
 use Rattle.hl_tables.specs.TableBlocks.{IsTableBlock}
@@ -17,7 +19,8 @@ use Rattle.hl_nodes.proofs.PointerLemmas.{in_log-high}
 use Rattle.hl_found.proofs.TablesFound.{shape_between}
 use Rattle.hl_recovery.specs.declared.stop.MountStop.{MountStop}
 use Rattle.hl_recovery.specs.declared.stop.MountStop.TheVariants.{NoLabel, NoRecord, WrongRack, Damaged, DiskFault, Memory}
-use Rattle.hl_recovery.specs.Recoveries.{AreInPlace}
+use Rattle.hl_recovery.specs.Recoveries.{HasSite}
+use Rattle.hl_recovery.specs.Stops.{IsStopped}
 use Rattle.hl_recovery.specs.TablePlaces.{IsMisplaced, StopsAtTable, StopsAtTables}
 
 -- the log is a part of the site
@@ -60,3 +63,14 @@ module _ (g : Layout) (image : Image) (rec : Record) where
   -- such a stop tells a broken rule, whatever the chain
   pub early_broken : (block : ℕ) (rule : Rule) (parts : List Summary) → StopsAtTables g image rec (Damaged block rule) → IsRuleBroken g image rec parts rule block
   early_broken block rule parts is = record { tables = fresh g; are = inl is.0; breaks = is.1 parts (fresh g) }
+
+  -- with the site and the chain it stops the mount
+  pub tables_stopped : (blocks : ℕ) (rack : List ℕ) (parts : List Summary) → HasSite blocks g rec image → rack ≡ g.volumes → IsCutChain g image (start_of rec) rec.serial parts
+      → (stop : MountStop) → StopsAtTables g image rec stop → IsStopped blocks rack image stop
+  tables_stopped blocks rack parts has same chain NoLabel never = absurd never
+  tables_stopped blocks rack parts has same chain NoRecord never = absurd never
+  tables_stopped blocks rack parts has same chain (WrongRack volume slots) never = absurd never
+  tables_stopped blocks rack parts has same chain (Damaged block rule) is =
+      record { geometry = g; rec = rec; parts = parts; site = has; rack_is = same; chain = chain; broken = early_broken block rule parts is }
+  tables_stopped blocks rack parts has same chain DiskFault is = tt
+  tables_stopped blocks rack parts has same chain Memory is = tt
