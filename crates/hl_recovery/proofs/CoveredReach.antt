@@ -2,17 +2,16 @@
 use Rattle.std.proofs.Common.{◌≡◌, ◌⊎◌, inl, inr, ⊎_elim, ℕ, ◌+◌, ◌-◌, ◌*◌, ◌^◌, ◌<◌, ◌≤◌, Bool, true, false, List, [], ◌∷◌, length, refl, sym, ◌∙◌, ap, subst, arith}
 use Rattle.std.specs.Prelude.{max, min, ◌==◌, if◌then◌else◌}
 use Rattle.std.specs.List.{fold}
-use Rattle.std.proofs.Math.Nat.{le-max_left, le-max_right}
-use Rattle.std.proofs.lemmas.Bool.{cases_eq, cases_lt, eqb-true, eq-eqb}
+use Rattle.std.proofs.Math.Nat.{le-max_left}
+use Rattle.std.proofs.lemmas.Bool.{cases_lt, eqb-true, eq-eqb}
 use Rattle.hl_addr.specs.Layout.{Layout}
 use Rattle.hl_bytes.specs.declared.records.TableRecord.{TableRecord}
 use Rattle.hl_summary.specs.declared.parts.Summary.{Summary}
 use Rattle.hl_image.specs.declared.place.LogPlace.{LogPlace}
 use Rattle.hl_image.specs.declared.chain.ChainPart.{ChainPart}
-use Rattle.hl_image.specs.Places.{block_at, IsLogPlace}
 use Rattle.hl_image.specs.Parts.{next_of}
 use Rattle.hl_image.specs.Chain.{Covers, placed}
-use Rattle.hl_image.proofs.ChainLemmas.{apart, next_place}
+use Rattle.hl_image.proofs.ChainLemmas.{apart}
 use Rattle.hl_nodes.specs.Tables.{raised, parts_raised}
 use Rattle.hl_recovery.specs.Chains.{AreSummaries}
 use Rattle.hl_recovery.specs.Covering.{IsCoveredTo, reach}

@@ -1,19 +1,15 @@
 -- Calls that read alone, one after the other.
-use Rattle.std.proofs.Common.{◌≡◌, ℕ, ◌*◌, ◌≤◌, List, ◌++◌, length, Option, Some, Result, Ok, Err, refl, sym, ◌∙◌, ap, subst, arith}
-use Rattle.std.specs.Prelude.{OnOk, IfOk, IfErr, MatchResult}
+use Rattle.std.proofs.Common.{◌≡◌, ℕ, List, ◌++◌, length, Option, Some, Result, Ok, Err, refl, sym, ◌∙◌, ap, subst, arith}
+use Rattle.std.specs.Prelude.{OnOk}
 use Rattle.std.specs.Option.{ForSome}
 use Rattle.hl_bytes.specs.Buffers.{with_part}
 use Rattle.hl_bytes.proofs.WholeParts.{whole_written}
 use Rattle.hl_media.specs.declared.failed.Failed.{Failed}
-use Rattle.hl_media.specs.Causes.{HasCause, Rose}
-use Rattle.hl_media.specs.History.{History, HoldsAt, MachineState, content, state_now, with_calls}
+use Rattle.hl_media.specs.History.{History, HoldsAt, MachineState, content, with_calls}
 use Rattle.hl_media.specs.Moments.{Now, Runs}
 use Rattle.hl_media.proofs.Runs.{goes_on, starts, ends_of_run}
 use Rattle.hl_log.specs.Logs.{OnlyReads}
 use Rattle.hl_log.specs.Rest.{IsUnchanged}
-use Rattle.hl_recovery.specs.declared.stop.MountStop.{MountStop}
-use Rattle.hl_recovery.specs.declared.stop.MountStop.TheVariants.{DiskFault}
-use Rattle.hl_recovery.specs.Stops.{StopsBy}
 
 -- what holds behind reads held before them
 pub seen_before : (before now : Option History) (P : MachineState → Type 0) → Runs before now IsUnchanged → Now now P → Now before P

@@ -1,9 +1,9 @@
 -- Parts of an image that lie in a segment that was read.
-use Rattle.std.proofs.Common.{◌≡◌, ℕ, ◌+◌, ◌-◌, ◌*◌, ◌<◌, ◌≤◌, List, length, take, drop, refl, sym, ◌∙◌, ap, arith, length-drop}
-use Rattle.std.specs.Prelude.{Option, Some, None, Result, Ok, Err, IfOk, IfSome, ◌↔◌}
+use Rattle.std.proofs.Common.{◌≡◌, ℕ, ◌+◌, ◌-◌, ◌*◌, ◌≤◌, List, length, take, drop, refl, sym, ◌∙◌, ap, arith}
+use Rattle.std.specs.Prelude.{Option, Some, None, Result, Ok, Err, IfOk, ◌↔◌}
 use Rattle.std.specs.declared.alloc.AllocError.{AllocError}
-use Rattle.std.proofs.lemmas.List.{take_all, take-take, length-take-le}
-use Rattle.hl_bytes.specs.Buffers.{part_of, block_of}
+use Rattle.std.proofs.lemmas.List.{take_all, take-take}
+use Rattle.hl_bytes.specs.Buffers.{part_of}
 use Rattle.hl_bytes.proofs.BufferLemmas.{length-part}
 use Rattle.hl_bytes.proofs.Parts.{block_of-part}
 use Rattle.hl_media.specs.History.{Image, area, HoldsAt}
@@ -13,7 +13,7 @@ use Rattle.hl_summary.specs.declared.parts.Summary.{Summary}
 use Rattle.hl_summary.specs.Parts.{Spells}
 use Rattle.hl_image.specs.declared.place.LogPlace.{LogPlace}
 use Rattle.hl_image.specs.Places.{block_at}
-use Rattle.hl_image.specs.Parts.{IsPart, NoPart}
+use Rattle.hl_image.specs.Parts.{IsPart}
 use Rattle.hl_image.proofs.PartLemmas.{spells_front}
 use Rattle.hl_recovery.specs.Chains.{FindsPart}
 

@@ -1,15 +1,13 @@
 -- Summaries that may stand one where the other names.
-use Rattle.std.proofs.Common.{◌≡◌, ◌⊎◌, inl, inr, ℕ, zero, suc, ◌+◌, ◌<◌, ◌≤◌, List, [], ◌∷◌, ◌++◌, length, take, refl, sym, ◌∙◌, ap, subst, arith}
+use Rattle.std.proofs.Common.{◌≡◌, inl, inr, ℕ, zero, suc, ◌+◌, ◌<◌, ◌≤◌, List, [], ◌∷◌, ◌++◌, length, take, sym, ◌∙◌, subst, arith}
 use Rattle.std.specs.Prelude.{All, sum}
 use Rattle.std.proofs.lemmas.List.Elements.{All-nil, All-cons, All-weaker}
 use Rattle.hl_addr.specs.Layout.{Layout, IsWithinLimits, table_blocks}
 use Rattle.hl_bytes.specs.declared.records.BlockRecord.{BlockRecord}
 use Rattle.hl_bytes.specs.declared.records.TableRecord.{TableRecord}
 use Rattle.hl_summary.specs.declared.parts.Summary.{Summary}
-use Rattle.hl_summary.specs.Parts.{HasRanges, IsSummary}
 use Rattle.hl_summary.specs.Ranges.{IsBlockOf, IsChangeOf}
 use Rattle.hl_image.specs.declared.place.LogPlace.{LogPlace}
-use Rattle.hl_image.specs.declared.chain.ChainPart.{ChainPart}
 use Rattle.hl_image.specs.Places.{IsLogPlace}
 use Rattle.hl_image.specs.Parts.{next_of}
 use Rattle.hl_image.specs.Chain.{end_of, placed}

@@ -1,6 +1,5 @@
 -- Tables that are read from the blocks that a record names.
-use Rattle.std.proofs.Common.{◌≡◌, ◌⊎◌, inl, inr, ⊎_elim, ℕ, ◌+◌, ◌*◌, ◌<◌, ◌≤◌, List, length, refl, sym, ◌∙◌, ap, subst, arith, lit≤}
-use Rattle.std.specs.Prelude.{slice_index, ◌≢◌}
+use Rattle.std.proofs.Common.{◌≡◌, inl, inr, ⊎_elim, ℕ, ◌<◌, ◌≤◌, List, sym, subst, arith, lit≤}
 use Rattle.hl_media.specs.History.{Image}
 use Rattle.hl_addr.specs.Layout.{Layout, IsWithinLimits}
 use Rattle.hl_super.specs.declared.record.Record.{Record}
@@ -54,11 +53,14 @@ module _ (g : Layout) (image : Image) (rec : Record) where
 
   -- an address that is out of place
   pub misplaced_stops : (block : ℕ) → IsMisplaced g rec.tables block → StopsAtTables g image rec (Damaged block TablePlace)
-  misplaced_stops block is = (lit≤ tt, λ parts u. (
+  misplaced_stops block is = (
+    lit≤ tt,
+    λ parts u. (
       is.place,
       (is.within, is.there),
       ⊎_elim (λ off. inl off) (λ twice. inr (twice.0, (let lt = twice.1 in λ same. (let no : ⊥ = omega arith in no)), (omega (arith, twice.1, is.within), twice.2))) is.off,
-    ))
+    ),
+  )
 
   -- such a stop tells a broken rule, whatever the chain
   pub early_broken : (block : ℕ) (rule : Rule) (parts : List Summary) → StopsAtTables g image rec (Damaged block rule) → IsRuleBroken g image rec parts rule block

@@ -1,5 +1,5 @@
 -- What the steps of a mount find.
-use Rattle.std.specs.Prelude.{◌≡◌, ◌↔◌, ℕ, ◌+◌, ◌*◌, ◌≤◌, List, length, Option, Some}
+use Rattle.std.specs.Prelude.{◌≡◌, ◌↔◌, ℕ, ◌+◌, ◌*◌, ◌≤◌, length, Option, Some}
 use Rattle.hl_media.specs.History.{Image, HoldsAt}
 use Rattle.hl_addr.specs.Layout.{Layout, IsWithinLimits, table_blocks}
 use Rattle.hl_super.specs.declared.label.Label.{Label}

@@ -68,9 +68,14 @@ pub(crate) fn find_chain<M: Machine>(
         at,
         serial,
     };
-    'walk: while let Some(summary) =
-        next_part(alloc, machine, &site.geometry, &mut held, at, serial)?
-    {
+    'walk: while let Some(summary) = next_part(
+        alloc,
+        machine,
+        &site.geometry,
+        &mut held,
+        at,
+        serial,
+    )? {
         let ends = summary.ends;
         let next = LogPlace {
             seg: summary.next_seg,

@@ -1,6 +1,5 @@
-use Rattle.std.proofs.Common.{◌≡◌, ◌+◌, ◌∙◌, ◌++◌, ◌∷◌, [], ℕ, List, length, ap, subst, sym, refl, take, arith, Some, None, if◌then◌else◌}
+use Rattle.std.proofs.Common.{◌≡◌, ◌+◌, ◌∙◌, length, ap, refl, take, arith, Some, None}
 use Rattle.hl_media.specs.History.{MachineState, content}
-use Rattle.hl_image.specs.declared.chain.ChainPart.{ChainPart}
 use Rattle.hl_image.specs.Newest.{start_of}
 use Rattle.hl_image.specs.Parts.{next_of}
 use Rattle.hl_image.proofs.Walking.{none_past}

@@ -1,4 +1,4 @@
-use Rattle.std.proofs.Common.{◌≡◌, ◌+◌, ◌<◌, ◌≤◌, length, arith, below_more, refl}
+use Rattle.std.proofs.Common.{length, arith, below_more, refl}
 use Rattle.hl_recovery.proofs.RackLaws.{same_by_places, lacks, has_other, has_more, same_more}
 use Rattle.hl_recovery.proofs.rack.first_other.Goals as goal
 use Rattle.hl_recovery.proofs.rack.first_other.Goals.{then-i-rack-via-then-i-rack, then-i-rack-via-else-i-rack+then-rack-i}

@@ -1,4 +1,4 @@
-use Rattle.std.proofs.Common.{◌≡◌, ◌+◌, ◌-◌, ◌^◌, ◌≤◌, ◌∙◌, ℕ, List, sym, ap, subst, length, arith, refl}
+use Rattle.std.proofs.Common.{◌+◌, ◌-◌, ◌^◌, ◌∙◌, ℕ, List, sym, ap, subst, arith}
 use Rattle.std.specs.Prelude.{All, min, slice_index}
 use Rattle.std.specs.List.{fold}
 use Rattle.hl_image.specs.declared.chain.ChainPart.{ChainPart}

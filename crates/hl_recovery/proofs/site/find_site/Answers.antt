@@ -1,6 +1,5 @@
 use Rattle.std.proofs.Common.{List, ℕ, subst, ◌∙◌}
 use Rattle.std.proofs.lemmas.Result.{err_from_is_err_and}
-use Rattle.hl_media.specs.History.{content}
 use Rattle.hl_recovery.specs.Racks.{DifferFirstAt}
 use Rattle.hl_recovery.proofs.site.find_site.Goals as goal
 

@@ -1,8 +1,7 @@
-use Rattle.std.proofs.Common.{◌≡◌, ◌*◌, ◌<◌, ◌≤◌, ◌∙◌, ℕ, List, sym, ap, subst, length, arith, refl}
+use Rattle.std.proofs.Common.{◌≡◌, ◌*◌, ◌<◌, ◌∙◌, ℕ, List, sym, ap, length, arith}
 use Rattle.std.specs.Prelude.{slice_index}
 use Rattle.std.proofs.lemmas.Result.{err_from_is_err_and}
 use Rattle.hl_media.specs.History.{MachineState, content}
-use Rattle.hl_image.specs.Places.{InLog}
 use Rattle.hl_addr.specs.Layout.{table_blocks}
 use Rattle.hl_bytes.specs.Fields.{written}
 use Rattle.hl_tables.specs.Values.{fresh}
