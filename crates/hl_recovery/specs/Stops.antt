@@ -11,7 +11,7 @@ use Rattle.hl_summary.specs.declared.parts.Summary.{Summary}
 use Rattle.hl_image.specs.Chain.{IsCutChain}
 use Rattle.hl_image.specs.Newest.{start_of}
 use Rattle.hl_nodes.specs.declared.rule.Rule.{Rule}
-use Rattle.hl_nodes.specs.Verdicts.{IsRuleBroken}
+use Rattle.hl_nodes.specs.Verdicts.{rule_number, IsRuleBroken, BreaksNoneBefore}
 use Rattle.hl_recovery.specs.declared.stop.MountStop.{MountStop}
 use Rattle.hl_recovery.specs.declared.stop.MountStop.TheVariants.{NoLabel, NoRecord, WrongRack, Damaged, DiskFault, Memory}
 use Rattle.hl_recovery.specs.Racks.{DifferFirstAt}
@@ -33,7 +33,8 @@ pub record HasOtherRack (blocks : ℕ) (rack : List ℕ) (image : Image)
   pub differ : DifferFirstAt geometry.volumes rack volume
   pub slots_is : slots ≡ slice_index rack volume
 
--- the image names a site with the rack's volumes, and with the chain behind its record it breaks the rule there
+-- the image names a site with the rack's volumes, and with the chain behind its record it breaks the rule there, and no
+-- rule before it anywhere
 pub record HasBroken (blocks : ℕ) (rack : List ℕ) (image : Image)
     (block : ℕ) (rule : Rule) : Type 0 where
   pub geometry : Layout
@@ -43,6 +44,7 @@ pub record HasBroken (blocks : ℕ) (rack : List ℕ) (image : Image)
   pub rack_is : rack ≡ geometry.volumes
   pub chain : IsCutChain geometry image (start_of rec) rec.serial parts
   pub broken : IsRuleBroken geometry image rec parts rule block
+  pub first : BreaksNoneBefore geometry image rec parts (rule_number rule)
 
 -- what the image has where a mount is stopped
 abbrev pub IsStopped : ℕ → List ℕ → Image → MountStop → Type 0

@@ -9,7 +9,7 @@ use Rattle.hl_tables.specs.Values.{TableValues}
 use Rattle.hl_tables.specs.TableBlocks.{IsTableBlock}
 use Rattle.hl_nodes.specs.declared.rule.Rule.TheVariants.{TableBytes}
 use Rattle.hl_nodes.specs.Breaks.{Breaks}
-use Rattle.hl_nodes.specs.Verdicts.{rule_number}
+use Rattle.hl_nodes.specs.Verdicts.{rule_number, BreaksNoneBefore}
 use Rattle.hl_recovery.specs.declared.stop.MountStop.{MountStop}
 use Rattle.hl_recovery.specs.declared.stop.MountStop.TheVariants.{NoLabel, NoRecord, WrongRack, Damaged, DiskFault, Memory}
 
@@ -31,12 +31,13 @@ StopsAtTable t image i address (Damaged block rule) = (block ≡ address) × (ru
 StopsAtTable t image i address DiskFault = Unit {0}
 StopsAtTable t image i address Memory = Unit {0}
 
--- rule 1 or 2 that is broken there, a fault, or want of memory
+-- the rule 1 or 2 that is broken there, and none before it, whatever the chain; a fault, or want of memory
 abbrev pub StopsAtTables : Layout → Image → Record → MountStop → Type 0
 StopsAtTables g image rec NoLabel = ⊥
 StopsAtTables g image rec NoRecord = ⊥
 StopsAtTables g image rec (WrongRack volume slots) = ⊥
 StopsAtTables g image rec (Damaged block rule) = (rule_number rule ≤ 2)
     × ((parts : List Summary) (t : TableValues) → Breaks g image rec parts t rule block)
+    × ((parts : List Summary) → BreaksNoneBefore g image rec parts (rule_number rule))
 StopsAtTables g image rec DiskFault = Unit {0}
 StopsAtTables g image rec Memory = Unit {0}

@@ -32,7 +32,7 @@ returns-in_err-read_table-clause-stopped g c =
     let blocks = blocks_are site.geometry c.in_ok-tables.tables c.in_ok-tables.ensures in
     let lt : i < length site.rec.tables = omega (arith, blocks, c.blocks-i-end.ensures, c.blocks-2-test.true, c.requires.site.tables) in
     let same : slice_index site.rec.tables i ≡ address = ap (λ (l : List ℕ). slice_index l i) (sym c.items-addresses.ensures) in
-    rw (p.1, p.2) (λ h e. table_stops site.geometry (content h) site.rec c.blocks-2.tables c.blocks-2.invariant.shape i address (lt, same) stop
+    rw (p.1, p.2) (λ h e. table_stops site.geometry (content h) site.rec c.requires.places c.blocks-2.tables c.blocks-2.invariant.shape i address (lt, same) stop
     (seen_before (g.M.Machine.history c.args.machine.now) (g.M.Machine.history c.blocks-2.machine) (λ (s : MachineState). StopsAtTable c.blocks-2.tables s.content i address stop)
     c.blocks-2.invariant.reads.unchanged c.in_err-read_table.ensures.stopped h e))
 
