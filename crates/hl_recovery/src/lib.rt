@@ -2,9 +2,9 @@
 //! record's, the chain behind the record, and the tables with the chain laid over them
 //! (`docs/FORMATS.md`, "Parts of the log" and "The rules of a mount").
 //!
-//! The machine is only read. Each block of the disk's first segment and of the tables, and each part
-//! of the chain, is read once; memory is taken for one segment, the tables, and the records of the
-//! chain's parts.
+//! The machine is only read: the label, both records and each table block once, and a segment of the
+//! log once for all parts of the chain that follow each other there. Memory is taken for one segment,
+//! the tables, and the records of the chain's parts.
 #![tactic(auto)]
 
 mod chain;

@@ -33,10 +33,10 @@ pub struct Recovered {
     pub rec: Record,
     /// Where the log goes on: the place behind the chain.
     pub at: LogPlace,
-    /// The serial of the part that is to stand there.
+    /// The serial of the part that is to stand there, at most the greatest of 64 bits.
     pub serial: u64,
-    /// Of each segment from 0 to the log's last, the block behind the last one of a part of the chain
-    /// in it, and 0 where it has none.
+    /// Of each segment from 0 to the log's last, the block behind the last one of a part of the
+    /// chain in it, and 0 where it has none.
     pub covered: Vec<u32>,
     /// The serial that the next tertiary segment gets.
     pub tseg_serial: u64,
@@ -77,10 +77,10 @@ fn laid_together(
 }
 
 /// Reads what a mount has to know first, in this order: the label of block 0; the newest record of
-/// blocks 1 and 2; whether its volumes are those of the rack, which has so many slots of each volume;
+/// blocks 1 and 2; whether its volumes are those of the rack, `rack` being the slots of each volume;
 /// the chain behind it, up to the last part that ends a unit; and the tables, with the chain laid
-/// over them. The first of these that fails tells the answer. The machine is only read, and each
-/// part once; of the chain the records of all its parts are kept until they are laid.
+/// over them. The first of these that fails tells the answer. The machine is only read; the records
+/// of the chain's parts are kept until they are laid.
 pub fn recover<M: Machine>(
     alloc: Global,
     machine: &mut M,

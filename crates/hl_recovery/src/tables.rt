@@ -124,7 +124,8 @@ fn read_tables<M: Machine>(alloc: Global, machine: &mut M, site: &Site) -> Resul
     Ok(tables)
 }
 
-/// The tables that the site's table blocks spell, where these are in place. It reads each block once.
+/// The tables that the site's table blocks spell, where these are in place. It reads each block
+/// once.
 pub(crate) fn find_tables<M: Machine>(
     alloc: Global,
     machine: &mut M,
