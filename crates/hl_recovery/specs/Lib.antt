@@ -1,0 +1,7 @@
+pub mod Racks
+pub mod Covering
+pub mod Recoveries
+pub mod Stops
+pub mod Finding
+pub mod Chains
+pub mod TablePlaces
