@@ -3,7 +3,7 @@
 use hl_inode::Inode;
 use hl_media::Failed;
 use hl_nodes::Rule;
-use std::alloc::AllocError;
+use std::alloc::{AllocError, AllocFailed};
 
 /// An inode of a disk, where it lies, and the address of each of its blocks, one for each 4,096 bytes begun.
 #[derive(Drop)]
@@ -31,6 +31,17 @@ impl From<AllocError> for SurveyStop {
     ghost from_gives = { λ _ e. e ≡ Memory };
 
     fn from(_: AllocError) -> SurveyStop {
+        SurveyStop::Memory
+    }
+}
+
+impl<T: Drop> From<AllocFailed<T>> for SurveyStop {
+    ghost use Rattle.std.specs.Prelude.{◌≡◌};
+    ghost use Rattle.hl_survey.specs.declared.found.SurveyStop.TheVariants.{Memory};
+
+    ghost from_gives = { λ _ e. e ≡ Memory };
+
+    fn from(_: AllocFailed<T>) -> SurveyStop {
         SurveyStop::Memory
     }
 }
