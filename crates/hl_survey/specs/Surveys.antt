@@ -49,7 +49,7 @@ IsPointer g slots kind pointer = (pointer ≡ 4294967295) ⊎ (InLog g pointer �
 pub record ArePointers (g : Layout) (slots : SlotTable) (image : Image) (v : Inode) (pointers : List ℕ) : Type 0 where
   pub count : length pointers ≡ blocks_of v.size
   pub are : (i : ℕ) → i < blocks_of v.size → slice_index pointers i ≡ pointer_of image v i
-  pub may : (i : ℕ) → i < blocks_of v.size → IsPointer g slots v.kind (pointer_of image v i)
+  pub may : (i : ℕ) → i < blocks_of v.size → IsPointer g slots v.kind (slice_index pointers i)
 
 -- the inode of a number where the map says, with its pointers; the root is a directory
 pub record IsFoundInode (g : Layout) (image : Image) (t : TableValues) (ino : ℕ) (found : FoundInode) : Type 0 where

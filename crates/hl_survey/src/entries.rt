@@ -1,7 +1,8 @@
 //! Entries of the inode map.
 
-ghost use Rattle.std.specs.Prelude.{◌≡◌, ◌<◌, ◌/◌, false, length, slice_index, IsTrue};
+ghost use Rattle.std.specs.Prelude.{◌≡◌, ◌≢◌, ◌<◌, ◌/◌, false, length, IsTrue};
 ghost use Rattle.hl_addr.specs.Layout.{table_blocks};
+ghost use Rattle.hl_image.specs.Places.{log_end};
 ghost use Rattle.hl_nodes.specs.Breaks.{IsOffEntry, IsTableAt};
 ghost use Rattle.hl_survey.specs.Surveys.{IsEntry};
 
@@ -16,6 +17,7 @@ const ENTRIES: u32 = 1_024;
 pub(crate) fn is_off_entry(geometry: &Geometry, ino: u32, entry: u32) -> bool
     ensures off { IsTrue result → IsOffEntry geometry.now ino entry }
     ensures passed { result ≡ false → IsEntry geometry.now ino entry }
+    ensures within { result ≡ false → entry ≢ 4294967295 → entry < log_end geometry.now }
 {
     if entry == NOTHING {
         ino == 1

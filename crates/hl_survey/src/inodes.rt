@@ -3,6 +3,7 @@
 ghost use Rattle.std.specs.Prelude.{◌≡◌, ◌<◌, length, IfErr, IfOk, MatchOption};
 ghost use Rattle.hl_media.specs.Moments.{Now};
 ghost use Rattle.hl_log.specs.Logs.{OnlyReads};
+ghost use Rattle.hl_inode.specs.Inodes.{IsInode};
 ghost use Rattle.hl_nodes.specs.Breaks.{IsOffInode};
 ghost use Rattle.hl_survey.specs.Surveys.{IsInodeOf};
 ghost use Rattle.hl_survey.specs.Stops.{BreaksInode, Stops};
@@ -45,6 +46,7 @@ pub(crate) fn read_inode<M: Machine>(
     requires { own < M.blocks machine.old }
     ensures inode { IfOk result (λ v.
         Now (M.history machine.old) (λ s. IsInodeOf ino (s.content own) v)) }
+    ensures is { IfOk result IsInode }
     ensures stops { IfErr result
         (Stops M.history M.faults (BreaksInode ino own) machine.old machine.new) }
     ensures machine { OnlyReads M.history M.blocks M.faults M.write_faults M.say_faults

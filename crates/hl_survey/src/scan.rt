@@ -4,7 +4,7 @@ ghost use Rattle.std.specs.Prelude.{◌≡◌, ◌≢◌, ◌<◌, ◌≤◌, le
 ghost use Rattle.hl_media.specs.Moments.{Now};
 ghost use Rattle.hl_addr.specs.Layout.{table_blocks};
 ghost use Rattle.hl_super.specs.declared.record.Record.{Record};
-ghost use Rattle.hl_image.specs.Places.{InLog};
+ghost use Rattle.hl_image.specs.Places.{InLog, log_end};
 ghost use Rattle.hl_log.specs.Logs.{OnlyReads, site_blocks};
 ghost use Rattle.hl_tables.specs.Values.{AreTables};
 ghost use Rattle.hl_survey.specs.Surveys.{AreSurveyed, IsFound, IsFoundInode};
@@ -34,6 +34,7 @@ fn survey_inode<M: Machine>(
     requires low { 1 ≤ ino }
     requires high { ino < geometry.now.inodes }
     requires entry { InLog geometry.now (slice_index tables.now.inodes ino) }
+    requires within { slice_index tables.now.inodes ino < log_end geometry.now }
     ensures found { IfOk result (λ found. Now (M.history machine.old)
         (λ s. IsFoundInode geometry.now s.content tables.now ino found)) }
     ensures stops { IfErr result (Stops M.history M.faults (λ image rule block.
