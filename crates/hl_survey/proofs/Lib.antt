@@ -1,5 +1,5 @@
 pub mod Looking
 pub mod Classes
-pub mod Reads
+pub mod Unchanged
 pub mod Stopping
 pub mod RulesKept

@@ -27,11 +27,12 @@ use std::alloc::{AllocError, Global};
 /// The pointers of an inode itself.
 const DIRECT: u32 = 12;
 
-/// Whether a slot holds a segment that has a block at this position, of the most that a segment may have.
-fn holds_block(slot: Slot, position: u32, most: u32) -> bool
-    ensures { IsTrue result ↔ HoldsBlock slot position most }
+/// Whether a slot holds a segment that has a block of a node of this kind at this position, of the most that a segment may
+/// have.
+fn holds_block(slot: Slot, kind: Kind, position: u32, most: u32) -> bool
+    ensures { IsTrue result ↔ HoldsBlock slot kind position most }
 {
-    if position == 0 || most < position {
+    if kind == Kind::Dir || position == 0 || most < position {
         return false;
     }
     match slot {
@@ -64,7 +65,7 @@ fn is_pointer(geometry: &Geometry, slots: &TsegTable, kind: Kind, address: u32) 
             block,
         } => {
             let held = held_slot(geometry, slots, volume, slot);
-            kind == Kind::File && holds_block(held, block, geometry.data_max())
+            holds_block(held, kind, block, geometry.data_max())
         }
         _ => false,
     }
