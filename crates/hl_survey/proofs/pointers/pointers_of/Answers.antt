@@ -1,11 +1,11 @@
-use Rattle.std.proofs.Common.{◌≡◌, inr, ℕ, ◌+◌, ◌<◌, ◌≤◌, [], ◌∷◌, length, sym, subst, ap, ◌∙◌, arith, length-append}
+use Rattle.std.proofs.Common.{◌≡◌, inr, ℕ, ◌<◌, sym, subst, arith}
 use Rattle.hl_tseg.specs.SlotTable.{SlotTable}
 use Rattle.hl_placed.specs.Blocks.{blocks_of}
 use Rattle.hl_nodes.specs.Breaks.{IsOffPointer}
 use Rattle.hl_nodes.specs.Pointers.{pointer_of}
 use Rattle.hl_survey.specs.Surveys.{IsPointer}
 use Rattle.hl_survey.proofs.Classes.{pointer_off}
-use Rattle.hl_survey.proofs.Pushing.{each_pushed}
+use Rattle.hl_survey.proofs.Pushing.{each_pushed, length_pushed}
 use Rattle.hl_survey.proofs.pointers.pointers_of.Goals as goal
 
 pub pointers-preserved : goal.pointers-preserved
@@ -17,7 +17,7 @@ pointers-preserved c =
     let v = c.args.inode.now in
     let may : IsPointer c.args.geometry.now c.args.tables.now.slots v.kind address = subst (λ (s : SlotTable). IsPointer c.args.geometry.now s v.kind address) c.slots.ensures (c.is_pointer.ensures.0 c.if-not-is_pointer.false) in
     record {
-      count = ap length is ∙ length-append items (address ∷ []) ∙ ap (λ (n : ℕ). n + 1) count;
+      count = length_pushed items c.push.new.self.items address c.pointers.i count is;
       are = λ image has. each_pushed (λ k p. p ≡ pointer_of image v k) 0 items c.push.new.self.items address c.pointers.i count is (c.pointers.invariant.are image has) (c.pointer_at-address.ensures image has);
       may = each_pushed (λ k p. IsPointer c.args.geometry.now c.args.tables.now.slots v.kind p) 0 items c.push.new.self.items address c.pointers.i count is c.pointers.invariant.may may;
     }
