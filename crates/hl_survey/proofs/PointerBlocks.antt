@@ -10,7 +10,7 @@ use Rattle.hl_image.specs.Places.{InLog}
 use Rattle.hl_placed.specs.Blocks.{blocks_of}
 use Rattle.hl_nodes.specs.Breaks.{HasOffPointers}
 use Rattle.hl_nodes.specs.Pointers.{pointer_in}
-use Rattle.hl_survey.specs.Pointing.{IsOffBlock, IsWholeBlock, SpellsPointers, number_at}
+use Rattle.hl_survey.specs.Pointing.{IsOffBlock, NamesOwnBlocks, SpellsPointers, number_at}
 
 -- a pointer of the block at an address
 read_in : (image : Image) (address : ℕ) (block : List ℕ) (i : ℕ) → address ≢ 4294967295 → image address ≡ block → pointer_in image address i ≡ number_at block i
@@ -21,14 +21,14 @@ read_in image address block i some is =
 
 module _ (image : Image) (v : Inode) (block : List ℕ) (some : v.single ≢ 4294967295) (is : image v.single ≡ block) where
   -- a pointer block that is in order
-  pub whole_block : (g : Layout) → InLog g v.single → IsWholeBlock v.size block → SpellsPointers g image v block
-  whole_block g in_log whole = record {
+  pub own_block : (g : Layout) → InLog g v.single → NamesOwnBlocks v.size block → SpellsPointers g image v block
+  own_block g in_log own = record {
     has = inr (record {
       in_log = in_log;
-      named = whole.named;
-      named_low = whole.low;
-      names = λ none. whole.names (sym (read_in image v.single block whole.named some is) ∙ none);
-      within = λ i lt past. read_in image v.single block i some is ∙ whole.within i lt past;
+      named = own.named;
+      named_low = own.low;
+      names = λ none. own.names (sym (read_in image v.single block own.named some is) ∙ none);
+      within = λ i lt past. read_in image v.single block i some is ∙ own.within i lt past;
     });
     is = λ _. is;
   }

@@ -26,7 +26,7 @@ abbrev pub number_at : List ℕ → ℕ → ℕ
 number_at block i = slice_index (pointers_of block) i
 
 -- the pointer block names a block, and none past the size
-pub record IsWholeBlock (size : ℕ) (block : List ℕ) : Type 0 where
+pub record NamesOwnBlocks (size : ℕ) (block : List ℕ) : Type 0 where
   pub named : ℕ
   pub low : named < 1024
   pub names : number_at block named ≢ 4294967295

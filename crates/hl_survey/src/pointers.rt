@@ -10,7 +10,7 @@ ghost use Rattle.hl_log.specs.Logs.{OnlyReads, site_blocks};
 ghost use Rattle.hl_nodes.specs.Pointers.{pointer_of};
 ghost use Rattle.hl_nodes.specs.Breaks.{HasOffPointer};
 ghost use Rattle.hl_survey.specs.Surveys.{ArePointers, IsPointer};
-ghost use Rattle.hl_survey.specs.Pointing.{HasBlock, HasPointers, HoldsBlock, IsOffBlock, IsWholeBlock, SpellsPointers, number_at};
+ghost use Rattle.hl_survey.specs.Pointing.{HasBlock, HasPointers, HoldsBlock, IsOffBlock, NamesOwnBlocks, SpellsPointers, number_at};
 ghost use Rattle.hl_survey.specs.Stops.{BreaksPointers, Stops};
 
 use crate::found::SurveyStop;
@@ -99,9 +99,9 @@ fn entry_at(block: &[u8], i: u32) -> u32
 
 /// Whether a pointer block names a block, and none past the size.
 #[tactic(auto, unfolding(hl_placed::specs::Blocks::blocks_of))]
-fn is_whole(size: u64, block: &[u8]) -> bool
+fn names_own_blocks(size: u64, block: &[u8]) -> bool
     requires { length block.now ≡ 4096 }
-    ensures so { IsTrue result → IsWholeBlock size block.now }
+    ensures so { IsTrue result → NamesOwnBlocks size block.now }
     ensures not { result ≡ false → IsOffBlock size block.now }
 {
     let blocks = size.div_ceil(4096);
@@ -174,7 +174,7 @@ fn read_pointer_block<M: Machine>(
         });
     }
     read_block(machine, inode.single, out)?;
-    if is_whole(inode.size, out) {
+    if names_own_blocks(inode.size, out) {
         Ok(())
     } else {
         Err(SurveyStop::Damaged {

@@ -1,7 +1,7 @@
 //! What no clause says: that a survey of a hand-made disk succeeds with ample memory, and what it tells of one that breaks
 //! each of the rules.
 
-ghost use Rattle.std.specs.Prelude.{IfOk, length, ◌≡◌};
+ghost use Rattle.std.specs.Prelude.{IfOk, length, ◌≡◌, ◌∷◌, []};
 ghost use Rattle.hl_tables.specs.Values.{AreTables};
 
 use super::*;
@@ -42,13 +42,20 @@ const FIELDS: [(usize, usize, u32); 15] = [
     (74, 4, AWAY),
 ];
 
+/// A field and an entry as they are.
+const SAME_FIELD: (usize, usize, u32) = (70, 8, 1);
+
+const SAME_ENTRY: (u32, u32) = (1, 70);
+
 fn put(image: &mut [u8], field: (usize, usize, u32)) {
     if field.0 < 1_984 && field.1 < 4_093 && image.len() == BYTES {
         put_u32(image, BLOCK * field.0 + field.1, field.2);
     }
 }
 
-fn image_of(alloc: Global) -> Result<Vec<u8>, AllocError> {
+fn image_of(alloc: Global) -> Result<Vec<u8>, AllocError>
+    ensures { IfOk result (λ image. length image.items ≡ 8126464) }
+{
     let mut image = vec![in alloc; 0; BYTES]?;
     for i in 0..13 {
         put(&mut image, (70, 32 + 4 * i, NOTHING));
@@ -63,13 +70,17 @@ fn image_of(alloc: Global) -> Result<Vec<u8>, AllocError> {
     Ok(image)
 }
 
-fn site(alloc: Global) -> Result<Geometry, Fail> {
+fn site(alloc: Global) -> Result<Geometry, Fail>
+    ensures { IfOk result (λ g. g ≡ record { k = 64; log = 16; lines = 14; inodes = 512; volumes = 4 ∷ [] }) }
+{
     let volumes = Numbers::of([4].to_vec(alloc)?);
     Ok(Geometry::new(64, 16, 14, 512, volumes).ok_or("off the limits")?)
 }
 
 /// A record whose table blocks stand in blocks 100 to 103.
-fn record(alloc: Global) -> Result<Record, AllocError> {
+fn record(alloc: Global) -> Result<Record, AllocError>
+    ensures { IfOk result (λ rec. length rec.tables ≡ 4) }
+{
     Ok(Record {
         number: 1,
         serial: 1,
@@ -82,18 +93,16 @@ fn record(alloc: Global) -> Result<Record, AllocError> {
     })
 }
 
-/// Tables in which numbers 1 and 2 are in use, the numbers given lie elsewhere, and slot 0 is staged in line 3 with the
-/// serial 9.
-fn tables_of(alloc: Global, site: &Geometry, entries: &[(u32, u32)]) -> Result<Tables, AllocError> {
+/// Tables in which numbers 1 and 2 are in use, one number has another entry, and slot 0 is staged in line 3 with the serial
+/// 9.
+fn tables_of(alloc: Global, site: &Geometry, entry: (u32, u32)) -> Result<Tables, AllocError>
+    ensures { IfOk result (AreTables site.now) }
+{
     let mut tables = Tables::new(alloc, site)?;
-    if 2 < site.inodes {
+    if 2 < site.inodes && entry.0 < site.inodes {
         tables.set_inode(1, 70);
         tables.set_inode(2, 71);
-    }
-    for (ino, address) in entries {
-        if *ino < site.inodes {
-            tables.set_inode(*ino, *address);
-        }
+        tables.set_inode(entry.0, entry.1);
     }
     let slots = tables.slots_mut();
     if 0 < slots.items().len() {
@@ -102,20 +111,18 @@ fn tables_of(alloc: Global, site: &Geometry, entries: &[(u32, u32)]) -> Result<T
     Ok(tables)
 }
 
-/// What a survey finds of the disk with these fields changed and these entries, where the call of a number fails.
+/// What a survey finds of the disk with a field changed and this entry, where the call of a number fails.
 fn surveyed(
     alloc: Global,
-    fields: &[(usize, usize, u32)],
-    entries: &[(u32, u32)],
+    field: (usize, usize, u32),
+    entry: (u32, u32),
     fails: u64,
 ) -> Result<Result<Vec<Option<FoundInode>>, SurveyStop>, Fail> {
     let site = site(alloc)?;
     let rec = record(alloc)?;
-    let tables = tables_of(alloc, &site, entries)?;
+    let tables = tables_of(alloc, &site, entry)?;
     let mut image = image_of(alloc)?;
-    for field in fields {
-        put(&mut image, *field);
-    }
+    put(&mut image, field);
     let mut machine = MemMachine::of_image(alloc, &image)?;
     machine.fail_call(alloc, fails)?;
     Ok(survey(alloc, &mut machine, &site, &rec, &tables))
@@ -123,7 +130,7 @@ fn surveyed(
 
 #[test]
 fn a_hand_made_disk_is_surveyed(rt: HostRuntime) -> Result<(), Fail> {
-    let Ok(found) = surveyed(rt.alloc(), &[], &[], 0)? else {
+    let Ok(found) = surveyed(rt.alloc(), SAME_FIELD, SAME_ENTRY, 0)? else {
         return Err("it is in order")?;
     };
     assert!(rt; found.len() == 512);
@@ -151,7 +158,7 @@ fn a_hand_made_disk_is_surveyed(rt: HostRuntime) -> Result<(), Fail> {
 fn an_entry_that_is_off_is_told(rt: HostRuntime) -> Result<(), Fail> {
     // Number 0 is in use, the root isn't, an entry is in a line.
     for (ino, address) in [(0, 70), (1, NOTHING), (5, 1_088)] {
-        let told = surveyed(rt.alloc(), &[], &[(ino, address)], 0)?.err();
+        let told = surveyed(rt.alloc(), SAME_FIELD, (ino, address), 0)?.err();
         let block = 100;
         let rule = Rule::MapEntry;
         assert!(rt;
@@ -179,7 +186,7 @@ fn a_block_that_is_off_is_told(rt: HostRuntime) -> Result<(), Fail> {
         (74, 4, NOTHING, 74, Rule::PointerBlock),
         (74, 8, 75, 74, Rule::PointerBlock),
     ] {
-        let stop = surveyed(rt.alloc(), &[(block, at, value)], &[], 0)?.err();
+        let stop = surveyed(rt.alloc(), (block, at, value), SAME_ENTRY, 0)?.err();
         let block_told = told;
         let wanted = SurveyStop::Damaged {
             block: block_told,
@@ -193,9 +200,9 @@ fn a_block_that_is_off_is_told(rt: HostRuntime) -> Result<(), Fail> {
 #[test]
 fn a_failed_read_is_a_fault_and_no_fourth_block_is_read(rt: HostRuntime) -> Result<(), Fail> {
     for fails in [1, 2, 3] {
-        let stop = surveyed(rt.alloc(), &[], &[], fails)?.err();
+        let stop = surveyed(rt.alloc(), SAME_FIELD, SAME_ENTRY, fails)?.err();
         assert!(rt; stop == Some(SurveyStop::DiskFault), "call {fails}");
     }
-    assert!(rt; surveyed(rt.alloc(), &[], &[], 4)?.is_ok());
+    assert!(rt; surveyed(rt.alloc(), SAME_FIELD, SAME_ENTRY, 4)?.is_ok());
     Ok(())
 }
