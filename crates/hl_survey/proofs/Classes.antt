@@ -1,5 +1,5 @@
 -- The pointers that a node may have, by the class of their address.
-use Rattle.std.proofs.Common.{◌≡◌, ◌≢◌, inl, inr, ℕ, List, [], refl, sym, ◌∙◌, ap, subst, ◌≤◌}
+use Rattle.std.proofs.Common.{◌≡◌, ◌≢◌, inl, inr, ℕ, [], refl, sym, ◌∙◌, ap, subst, ◌≤◌}
 use Rattle.hl_media.specs.History.{Image}
 use Rattle.hl_addr.specs.Layout.{Layout, data_max}
 use Rattle.hl_addr.specs.Place.{IsAt}
@@ -10,7 +10,6 @@ use Rattle.hl_tseg.specs.SlotTable.{SlotTable, slot_at}
 use Rattle.hl_tseg.specs.Slots.{HoldsSerial}
 use Rattle.hl_tseg.specs.declared.slot.Slot.{Slot}
 use Rattle.hl_inode.specs.declared.inode.Kind.{Kind}
-use Rattle.hl_inode.specs.declared.inode.Kind.TheVariants.{File}
 use Rattle.hl_placed.specs.Blocks.{Away, Block, Here, Hole}
 use Rattle.hl_nodes.specs.Blocks.{StandsFor}
 use Rattle.hl_nodes.specs.Breaks.{IsOffPointer}

@@ -8,7 +8,7 @@ use Rattle.hl_addr.specs.Layout.{Layout}
 use Rattle.hl_tables.specs.Values.{TableValues}
 use Rattle.hl_inode.specs.declared.inode.Inode.{Inode}
 use Rattle.hl_image.specs.Places.{InLog}
-use Rattle.hl_nodes.specs.Directories.{IsInodeIn, IsInUse}
+use Rattle.hl_nodes.specs.Directories.{IsInodeIn}
 use Rattle.hl_survey.specs.declared.found.FoundInode.{FoundInode}
 use Rattle.hl_survey.specs.Pointing.{HasPointers}
 use Rattle.hl_survey.specs.Surveys.{AreSurveyed, IsFound, IsFoundInode, IsInodeOf, IsRootFound}

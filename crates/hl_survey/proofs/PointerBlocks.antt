@@ -1,13 +1,12 @@
 -- A pointer block by its bytes, and in an image.
-use Rattle.std.proofs.Common.{◌≡◌, ◌≢◌, inl, inr, ℕ, ◌+◌, ◌-◌, ◌<◌, ◌≤◌, Bool, false, List, sym, ◌∙◌, ap, arith}
-use Rattle.std.specs.Prelude.{◌==◌, if◌then◌else◌, slice_index, nat_eq}
+use Rattle.std.proofs.Common.{◌≡◌, ◌≢◌, inl, inr, ℕ, Bool, false, List, sym, ◌∙◌, ap, arith}
+use Rattle.std.specs.Prelude.{if◌then◌else◌, slice_index, nat_eq}
 use Rattle.std.proofs.lemmas.Bool.Decides.{nat_tests}
 use Rattle.hl_media.specs.History.{Image}
 use Rattle.hl_addr.specs.Layout.{Layout}
 use Rattle.hl_inode.specs.Pointers.{pointers_of}
 use Rattle.hl_inode.specs.declared.inode.Inode.{Inode}
 use Rattle.hl_image.specs.Places.{InLog}
-use Rattle.hl_placed.specs.Blocks.{blocks_of}
 use Rattle.hl_nodes.specs.Breaks.{HasOffPointers}
 use Rattle.hl_nodes.specs.Pointers.{pointer_in}
 use Rattle.hl_survey.specs.Pointing.{IsOffBlock, NamesOwnBlocks, SpellsPointers, number_at}

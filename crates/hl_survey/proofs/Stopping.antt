@@ -1,6 +1,6 @@
 -- Why a survey stops, carried over reads.
-use Rattle.std.proofs.Common.{◌≡◌, ℕ, ◌≤◌, Option, arith}
-use Rattle.hl_media.specs.History.{History, Image, MachineState}
+use Rattle.std.proofs.Common.{ℕ, ◌≤◌, Option, arith}
+use Rattle.hl_media.specs.History.{History, Image}
 use Rattle.hl_media.specs.Moments.{Now}
 use Rattle.hl_media.specs.Causes.{Rose}
 use Rattle.hl_log.specs.Logs.{OnlyReads}

@@ -1,5 +1,5 @@
 -- Reads change nothing on a machine.
-use Rattle.std.proofs.Common.{◌≡◌, ℕ, ◌≤◌, ◌++◌, Option, Some, refl, ◌∙◌, ap, subst, arith}
+use Rattle.std.proofs.Common.{◌≡◌, ℕ, ◌++◌, Option, Some, refl, ◌∙◌, ap, subst, arith}
 use Rattle.hl_media.specs.History.{History, MachineState, with_calls}
 use Rattle.hl_media.specs.Moments.{Now, Runs}
 use Rattle.hl_media.proofs.Runs.{ends_of_run, goes_on, starts}

@@ -1,4 +1,4 @@
-use Rattle.std.proofs.Common.{◌≡◌, inr, ℕ, ◌<◌, sym, subst, arith}
+use Rattle.std.proofs.Common.{◌≡◌, inr, ℕ, sym, subst, arith}
 use Rattle.hl_tseg.specs.SlotTable.{SlotTable}
 use Rattle.hl_placed.specs.Blocks.{blocks_of}
 use Rattle.hl_nodes.specs.Breaks.{IsOffPointer}
