@@ -1,0 +1,1 @@
+//! Whether the last blocks of files are zero past the size.
