@@ -1,0 +1,4 @@
+mod Repeated
+mod SlotsOff
+pub mod Reading
+mod LinesOff

@@ -1,6 +1,6 @@
 //! Whether the staged lines of a disk hold the segments of their slots.
 
-ghost use Rattle.std.specs.Prelude.{◌≡◌, ◌↔◌, ℕ, ◌+◌, ◌*◌, ◌<◌, ◌≤◌, List, length, IsTrue, IfOk, OnOk, Err};
+ghost use Rattle.std.specs.Prelude.{◌≡◌, ◌↔◌, ℕ, ◌+◌, ◌*◌, ◌^◌, ◌<◌, ◌≤◌, List, length, IsTrue, IfOk, OnOk, Err};
 ghost use Rattle.std.specs.List.{slice_index_or};
 ghost use Rattle.hl_addr.specs.Layout.{IsWithinLimits};
 ghost use Rattle.hl_media.specs.Causes.{HasCause, Rose};
@@ -33,7 +33,7 @@ pub(crate) fn line_start(geometry: &Geometry, line: u32) -> u32
     requires { line < geometry.now.lines }
     ensures value { result ≡ line_start geometry.now line }
     ensures within { result + geometry.now.k ≤ site_blocks geometry.now }
-    ensures few { site_blocks geometry.now < 2 ^ 32 }
+    ensures few { result + geometry.now.k < 2 ^ 32 }
 {
     geometry.k * (geometry.log + 1 + line)
 }

@@ -77,8 +77,9 @@ fn is_off_limits(slot: Slot, lines: u32, next: u64) -> bool
 
 /// The first slot whose line isn't one of the disk, or whose serial isn't below the next one.
 fn first_off_limits(slots: &[Slot], lines: u32, next: u64) -> Option<usize>
-    ensures { let off = λ n. IsOffLimits lines next (slice_index_or slots.now n Free) in
-        MatchOption result ((n : ℕ) → ¬ off n) (λ n. (n < length slots.now) × off n) }
+    ensures { MatchOption result
+        ((n : ℕ) → ¬ IsOffLimits lines next (slice_index_or slots.now n Free))
+        (λ n. (n < length slots.now) × IsOffLimits lines next (slice_index_or slots.now n Free)) }
 {
     'slots: for i in 0..slots.len() {
         if is_off_limits(slots[i], lines, next) {
