@@ -1,9 +1,15 @@
 -- Blocks of the disk that aren't zero past the end of a file.
-use Rattle.std.specs.Prelude.{◌≡◌, ℕ, ◌%◌}
+use Rattle.std.specs.Prelude.{◌≡◌, ℕ, ◌+◌, ◌%◌}
 use Rattle.hl_media.specs.History.{Image}
 use Rattle.hl_addr.specs.Layout.{Layout}
+use Rattle.hl_tseg.specs.declared.slot.Slot.{Slot}
+use Rattle.hl_tseg.specs.declared.slot.Slot.TheVariants.{Staged}
 use Rattle.hl_tseg.specs.SlotTable.{SlotTable}
-use Rattle.hl_nodes.specs.Lines.{OnDisk, IsZeroFrom}
+use Rattle.hl_nodes.specs.Lines.{line_start, OnDisk, IsZeroFrom}
+
+-- the slot is staged, and this block of its line is this one of the disk
+abbrev pub IsStagedAt : Layout → Slot → ℕ → ℕ → Type 0
+IsStagedAt g slot position block = (line serial : ℕ) × (slot ≡ Staged line serial) × (block ≡ line_start g line + position)
 
 -- the block is this one, and isn't zero from a place on
 abbrev pub IsNonzero : Image → ℕ → ℕ → ℕ → Type 0
