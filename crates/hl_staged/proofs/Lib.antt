@@ -2,3 +2,4 @@ mod Repeated
 mod SlotsOff
 pub mod Reading
 mod LinesOff
+mod EndsOff
