@@ -1,5 +1,6 @@
 mod Repeated
 mod SlotsOff
-pub mod Reading
+mod Reading
 mod LinesOff
 mod EndsOff
+mod EndsTold

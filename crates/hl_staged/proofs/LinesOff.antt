@@ -21,7 +21,7 @@ use Rattle.hl_view.specs.Lines.{IsSegment}
 use Rattle.hl_nodes.specs.Lines.{line_bytes, line_start}
 use Rattle.hl_staged.specs.Lines.{IsOffLine}
 use Rattle.hl_staged.specs.Tells.{Tells}
-use Rattle.hl_staged.proofs.Reading.{now_before}
+use Rattle.hl_survey.proofs.Unchanged.{held_before}
 use Rattle.hl_staged.proofs.Repeated.{last_or_before}
 
 -- a buffer that is a segment of k blocks
@@ -62,12 +62,12 @@ module _ (g : Layout) (slots : List Slot) where
     hold_more none below m block lt = ⊎_elim (λ low. below m block low) (λ e. last m e) (last_or_before m n lt)
       where
         last : (m : ℕ) → m ≡ n → Now before (λ s. IsOffLine g s.content (slice_index_or slots m Free) block → ⊥)
-        last m e = now_before before middle (λ s. IsOffLine g s.content (slice_index_or slots m Free) block → ⊥) run (λ h told_now.
+        last m e = held_before before middle (λ s. IsOffLine g s.content (slice_index_or slots m Free) block → ⊥) run (λ h told_now.
             subst (λ (k : ℕ). IsOffLine g (content h) (slice_index_or slots k Free) block → ⊥) (sym e) (subst (λ (o : Option ℕ). Tells (IsOffLine g (content h) (slice_index_or slots n Free)) o) none (its h told_now) block))
 
     -- a line that doesn't hold its segment
     pub off_before : (block : ℕ) → off ≡ Some block → Now before (λ s. IsOffLine g s.content (slice_index_or slots n Free) block)
-    off_before block some = now_before before middle (λ s. IsOffLine g s.content (slice_index_or slots n Free) block) run (λ h told_now.
+    off_before block some = held_before before middle (λ s. IsOffLine g s.content (slice_index_or slots n Free) block) run (λ h told_now.
         subst (λ (o : Option ℕ). Tells (IsOffLine g (content h) (slice_index_or slots n Free)) o) some (its h told_now))
 
 module _ (g : Layout) (t : TableValues) (image : Image) (rec : Record) (parts : List Summary) where

@@ -1,51 +1,17 @@
--- Reads change nothing on a machine.
-use Rattle.std.proofs.Common.{◌≡◌, ℕ, ◌*◌, ◌/◌, ◌≤◌, ◌++◌, List, length, Option, Some, Result, Ok, Err, OnOk, refl, sym, ◌∙◌, ap, subst, arith}
+-- What a read of a whole buffer gives.
+use Rattle.std.proofs.Common.{◌≡◌, ℕ, ◌*◌, List, length, Option, Result, Ok, Err, OnOk, sym, ◌∙◌, subst, arith}
 use Rattle.std.specs.Option.{ForSome}
 use Rattle.hl_bytes.specs.Buffers.{with_part}
 use Rattle.hl_bytes.proofs.WholeParts.{whole_written}
 use Rattle.hl_media.specs.declared.failed.Failed.{Failed}
-use Rattle.hl_media.specs.History.{History, HoldsAt, MachineState, area, content, with_calls}
-use Rattle.hl_media.specs.Moments.{Now, Runs}
-use Rattle.hl_media.specs.Causes.{Rose}
+use Rattle.hl_media.specs.History.{History, HoldsAt, area, content}
+use Rattle.hl_media.specs.Moments.{Now}
 use Rattle.hl_media.proofs.Images.{area_holds}
-use Rattle.hl_media.proofs.Runs.{ends_of_run, goes_on, starts}
-use Rattle.hl_log.specs.Logs.{OnlyReads}
-use Rattle.hl_log.specs.Rest.{IsUnchanged}
 
--- what holds behind reads held before them
-pub now_before : (before now : Option History) (P : MachineState → Type 0) → Runs before now IsUnchanged → Now now P → Now before P
-now_before before now P run holds h e =
-    let h' : History = record { opening = h.opening; calls = h.calls ++ run.calls } in
-    let told : now ≡ Some h' = run.is ∙ ap (with_calls run.calls) e in
-    subst P (ends_of_run before now IsUnchanged run h e h' told) (holds h' told)
-
--- what a read of a whole buffer gives
+-- the bytes of an area, where a buffer was read from its start
 pub area_read : (told : Option History) (r : Result (Unit {0}) Failed) (at start k : ℕ) (bytes part : List ℕ) → at ≡ start → length bytes ≡ 4096 * k → length part ≡ 4096 * k
     → OnOk r (ForSome told (λ h. HoldsAt (content h) at part)) → OnOk r (Now told (λ s. area s.content start k ≡ with_part bytes 0 part))
 area_read told (Ok u) at start k bytes part place size same holds = λ h e.
     subst (λ (n : ℕ). area (content h) n k ≡ with_part bytes 0 part) place
     (area_holds (content h) at k part same (λ i lt. holds h e i (omega arith)) ∙ sym (whole_written bytes part (same ∙ sym size)))
 area_read told (Err e) at start k bytes part place size same holds = tt
-
-module _ {M : Type 0} {history : M → Option History} {blocks faults write_faults say_faults : M → ℕ} where
-  -- no read was made
-  pub reads_none : {m : M} → OnlyReads history blocks faults write_faults say_faults m m
-  reads_none {m} = record {
-    unchanged = starts (history m) IsUnchanged (λ h e. refl);
-    blocks_same = refl;
-    faults_most = omega arith;
-    write_faults_same = refl;
-    say_faults_same = refl;
-  }
-
-  -- reads, and then reads
-  pub reads_then : {before middle now : M} → OnlyReads history blocks faults write_faults say_faults before middle → OnlyReads history blocks faults write_faults say_faults middle now
-      → OnlyReads history blocks faults write_faults say_faults before now
-  reads_then {before} {middle} {now} run more = record {
-    unchanged = goes_on (history before) (history middle) (history now) IsUnchanged IsUnchanged IsUnchanged run.unchanged
-        (ends_of_run (history before) (history middle) IsUnchanged run.unchanged) more.unchanged (λ first mid s same later. later ∙ same);
-    blocks_same = more.blocks_same ∙ run.blocks_same;
-    faults_most = omega (arith, run.faults_most, more.faults_most);
-    write_faults_same = more.write_faults_same ∙ run.write_faults_same;
-    say_faults_same = more.say_faults_same ∙ run.say_faults_same;
-  }

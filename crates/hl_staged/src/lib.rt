@@ -8,6 +8,7 @@ mod repeats;
 mod slots;
 mod stop;
 
+pub use ends::check_ends;
 pub use lines::check_lines;
 pub use slots::check_slots;
 pub use stop::CheckStop;

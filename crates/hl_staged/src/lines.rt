@@ -131,7 +131,7 @@ pub fn check_lines<M: Machine>(
     requires lines { HaveLines geometry.now tables.now.slots }
     ensures told { IfOk result (λ off. Now (M.history machine.old)
         (λ s. (rec : Record) (parts : List Summary)
-            → Tells (Breaks geometry.now s.content rec parts tables.now LineBytes) off)) }
+        → Tells (Breaks geometry.now s.content rec parts tables.now LineBytes) off)) }
     ensures fault { result ≡ Err CheckStop.DiskFault
         → Rose (M.faults machine.old) (M.faults machine.new) }
     ensures machine { OnlyReads M.history M.blocks M.faults M.write_faults M.say_faults

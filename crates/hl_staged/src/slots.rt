@@ -103,7 +103,7 @@ fn count_staged(slots: &[Slot]) -> usize
 fn first_staged(slots: &[Slot]) -> Option<usize>
     ensures { MatchOption result (count_by is_staged slots.now ≡ 0)
         (λ n. (n < length slots.now) × ((line serial : ℕ)
-            × (slice_index_or slots.now n Free ≡ Staged line serial))) }
+        × (slice_index_or slots.now n Free ≡ Staged line serial))) }
 {
     'slots: for i in 0..slots.len() {
         if line_of(slots[i]).is_some() {

@@ -4,7 +4,7 @@ use Rattle.hl_tables.specs.Values.{TableValues}
 use Rattle.hl_tseg.specs.declared.slot.Slot.{Slot}
 use Rattle.hl_tseg.specs.declared.slot.Slot.TheVariants.{Free}
 use Rattle.hl_tseg.specs.SlotTable.{SlotTable}
-use Rattle.hl_staged.proofs.Reading.{reads_then}
+use Rattle.hl_survey.proofs.Unchanged.{reads_then}
 use Rattle.hl_staged.proofs.LinesOff.{hold_more, line_broken, lines_kept, off_before}
 use Rattle.hl_staged.proofs.lines.check_lines.Goals as goal
 
