@@ -1,11 +1,11 @@
 -- Where the last blocks of files lie on the disk, and that they aren't zero past the size.
-use Rattle.std.proofs.Common.{◌≡◌, ◌≢◌, ◌⊎◌, inl, inr, ⊎_elim, ℕ, ◌+◌, ◌-◌, ◌*◌, ◌/◌, ◌%◌, ◌<◌, ◌≤◌, ◌↔◌, List, ◌++◌, length, take, get_or, refl, sym, ap, ◌∙◌, subst, arith}
+use Rattle.std.proofs.Common.{◌≡◌, inl, inr, ⊎_elim, ℕ, ◌+◌, ◌-◌, ◌*◌, ◌%◌, ◌≤◌, ◌↔◌, List, ◌++◌, length, take, get_or, sym, ap, ◌∙◌, subst, arith}
 use Rattle.std.specs.Prelude.{Option, Some, None, Result, Ok, Err, IfOk}
 use Rattle.std.proofs.lemmas.Bool.{cases_lt}
 use Rattle.std.proofs.lemmas.List.{ext_get_or, get_or_append_left, get_or-append_right, get_or-replicate, get_or-take, get_or_past, length-append, length-take-le, take_all}
 use Rattle.hl_bytes.specs.Fields.{zeros}
 use Rattle.hl_bytes.proofs.PageLemmas.{length-zeros}
-use Rattle.hl_media.specs.History.{History, Image, content}
+use Rattle.hl_media.specs.History.{History}
 use Rattle.hl_media.specs.Moments.{Now}
 use Rattle.hl_addr.specs.Layout.{Layout}
 use Rattle.hl_addr.specs.Place.{IsAt}
@@ -13,7 +13,6 @@ use Rattle.hl_addr.specs.Slots.{slot_number}
 use Rattle.hl_addr.specs.declared.place.Place.{Place}
 use Rattle.hl_addr.specs.declared.place.Place.TheVariants.{Log, Tertiary}
 use Rattle.hl_tseg.specs.declared.slot.Slot.{Slot}
-use Rattle.hl_tseg.specs.declared.slot.Slot.TheVariants.{Staged}
 use Rattle.hl_tseg.specs.SlotTable.{SlotTable, slot_at}
 use Rattle.hl_nodes.specs.Lines.{IsZeroFrom, OnDisk}
 use Rattle.hl_staged.specs.Ends.{IsNonzero, IsOffEnd, IsStagedAt}

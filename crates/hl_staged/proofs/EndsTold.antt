@@ -1,6 +1,6 @@
 -- What the checks of files tell of the rule of last blocks.
-use Rattle.std.proofs.Common.{◌≡◌, ◌≢◌, ⊎_elim, ℕ, ◌+◌, ◌/◌, ◌%◌, ◌<◌, ◌≤◌, List, length, refl, sym, ap, ◌∙◌, subst, arith}
-use Rattle.std.specs.Prelude.{Option, Some, None, Result, Ok, Err, IfOk, slice_index, slice_get}
+use Rattle.std.proofs.Common.{◌≡◌, ◌≢◌, ⊎_elim, ℕ, ◌+◌, ◌/◌, ◌%◌, ◌<◌, List, length, sym, ap, ◌∙◌, subst, arith}
+use Rattle.std.specs.Prelude.{Option, Some, None, Result, Ok, Err, IfOk, slice_index}
 use Rattle.std.specs.List.{slice_index_or}
 use Rattle.std.proofs.lemmas.Option.{get_or_from_slice_get, slice_get-get_or}
 use Rattle.hl_media.specs.History.{History, Image, content}
@@ -12,7 +12,6 @@ use Rattle.hl_tseg.specs.SlotTable.{SlotTable}
 use Rattle.hl_tables.specs.Values.{TableValues}
 use Rattle.hl_inode.specs.declared.inode.Inode.{Inode}
 use Rattle.hl_placed.specs.Blocks.{blocks_of}
-use Rattle.hl_image.specs.Places.{InLog}
 use Rattle.hl_log.specs.Rest.{IsUnchanged}
 use Rattle.hl_nodes.specs.declared.rule.Rule.TheVariants.{LastBlock}
 use Rattle.hl_nodes.specs.Breaks.{Breaks}
@@ -21,7 +20,7 @@ use Rattle.hl_nodes.specs.Pointers.{pointer_of}
 use Rattle.hl_nodes.proofs.Frame.{one_inode}
 use Rattle.hl_nodes.proofs.PointerLemmas.{in_log-some}
 use Rattle.hl_survey.specs.declared.found.FoundInode.{FoundInode}
-use Rattle.hl_survey.specs.Surveys.{ArePointers, AreSurveyed, IsFound, IsFoundInode}
+use Rattle.hl_survey.specs.Surveys.{ArePointers, AreSurveyed, IsFound}
 use Rattle.hl_survey.proofs.Unchanged.{held_before}
 use Rattle.hl_staged.specs.Ends.{HasEnd, IsOffEnd, IsOffFile, TellsNumber}
 use Rattle.hl_staged.specs.Tells.{Tells}

@@ -1,5 +1,5 @@
-use Rattle.std.proofs.Common.{◌≡◌, length, refl, sym, subst, arith}
-use Rattle.std.specs.Prelude.{List, ℕ, Ok}
+use Rattle.std.proofs.Common.{◌≡◌, length, refl, sym, subst}
+use Rattle.std.specs.Prelude.{ℕ, Ok}
 use Rattle.hl_log.proofs.Readings.{read_tells}
 use Rattle.hl_media.specs.History.{content}
 use Rattle.hl_nodes.specs.Lines.{IsZeroFrom}

@@ -1,4 +1,4 @@
-use Rattle.std.proofs.Common.{◌≡◌, refl, sym, ap, ◌∙◌}
+use Rattle.std.proofs.Common.{◌≡◌, sym, ◌∙◌}
 use Rattle.std.specs.Prelude.{Some, None}
 use Rattle.hl_staged.proofs.EndsOff.{end_told}
 use Rattle.hl_staged.proofs.ends.off_end.Goals as goal

@@ -1,5 +1,3 @@
-use Rattle.std.proofs.Common.{◌≡◌, sym, ap, ◌∙◌}
-use Rattle.std.specs.Prelude.{Some, None}
 use Rattle.hl_staged.proofs.EndsOff.{log_on_disk, none_on_disk, staged_on_disk}
 use Rattle.hl_staged.proofs.ends.place_on_disk.Goals as goal
 

@@ -1,6 +1,5 @@
-use Rattle.std.proofs.Common.{List, length, ◌≡◌, ◌≤◌, get_or, refl, sym, ap, ◌∙◌, arith}
+use Rattle.std.proofs.Common.{List, length, ◌≤◌, get_or, sym, ap, ◌∙◌, arith}
 use Rattle.hl_media.specs.History.{content}
-use Rattle.hl_tables.specs.Values.{TableValues}
 use Rattle.hl_tseg.specs.declared.slot.Slot.{Slot}
 use Rattle.hl_tseg.specs.declared.slot.Slot.TheVariants.{Free}
 use Rattle.hl_tseg.specs.SlotTable.{SlotTable}

@@ -1,4 +1,4 @@
-use Rattle.std.proofs.Common.{◌≡◌, ◌+◌, ◌*◌, ◌/◌, ◌<◌, List, ℕ, get_or, length, sym, ◌∙◌, ap, arith}
+use Rattle.std.proofs.Common.{◌+◌, ◌*◌, ◌/◌, List, ℕ, get_or, length, sym, ◌∙◌, ap, arith}
 use Rattle.std.specs.Int.{div_ceil}
 use Rattle.hl_addr.specs.Layout.{Layout}
 use Rattle.hl_staged.proofs.SlotsOff.{slot_table, slot_table_low}
