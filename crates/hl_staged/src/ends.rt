@@ -41,7 +41,8 @@ fn held_slot(geometry: &Geometry, slots: &TsegTable, volume: u32, slot: u32) -> 
 fn staged_block(geometry: &Geometry, slot: Slot, position: u32) -> Option<u32>
     requires line { (line serial : ℕ) → slot ≡ Staged line serial → line < geometry.now.lines }
     requires position { position < geometry.now.k }
-    ensures place { (block : ℕ) → (result ≡ Some block) ↔ IsStagedAt geometry.now slot position block }
+    ensures place { (block : ℕ) → (result ≡ Some block)
+        ↔ IsStagedAt geometry.now slot position block }
     ensures within { IfSome result (λ block. block < site_blocks geometry.now) }
 {
     match slot {
@@ -54,7 +55,8 @@ fn staged_block(geometry: &Geometry, slot: Slot, position: u32) -> Option<u32>
 fn place_on_disk(geometry: &Geometry, slots: &TsegTable, pointer: u32) -> Option<u32>
     requires slots { slots.now.volumes ≡ geometry.now.volumes }
     requires lines { HaveLines geometry.now slots.now }
-    ensures place { (block : ℕ) → (result ≡ Some block) ↔ OnDisk geometry.now slots.now pointer block }
+    ensures place { (block : ℕ) → (result ≡ Some block)
+        ↔ OnDisk geometry.now slots.now pointer block }
     ensures within { IfSome result (λ block. block < site_blocks geometry.now) }
 {
     match geometry.class(pointer) {
@@ -171,7 +173,8 @@ fn off_number<M: Machine>(
     requires slots { slots.now.volumes ≡ geometry.now.volumes }
     requires lines { HaveLines geometry.now slots.now }
     ensures told { IfOk result (λ off. Now (M.history machine.old)
-        (λ s. TellsNumber geometry.now slots.now s.content (slice_index_or found.now ino None) off)) }
+        (λ s. TellsNumber geometry.now slots.now s.content (slice_index_or found.now ino None)
+        off)) }
     ensures machine { OnlyReads M.history M.blocks M.faults M.write_faults M.say_faults
         machine.old machine.new }
     ensures fault { HasCause (M.faults machine.old) (M.faults machine.new) result }
@@ -183,9 +186,9 @@ fn off_number<M: Machine>(
 }
 
 /// The last block of the first file, by number, whose last block lies in the log or in a staged
-/// line and isn't zero past the size, if there is one (`Rule::LastBlock`). It reads one block a file
-/// whose size isn't whole blocks. The inodes are those that a survey found on the disk as it is
-/// now, and the line of each staged slot is one of the disk, as the rule of slots has it.
+/// line and isn't zero past the size, if there is one (`Rule::LastBlock`). It reads one block a
+/// file whose size isn't whole blocks. The inodes are those that a survey found on the disk as it
+/// is now, and the line of each staged slot is one of the disk, as the rule of slots has it.
 pub fn check_ends<M: Machine>(
     machine: &mut M,
     geometry: &Geometry,

@@ -12,7 +12,8 @@ use std::collections::BTreeSet;
 fn put(seen: &mut BTreeSet<u64>, number: u64) -> Result<bool, AllocError>
     ensures added { IfOk result (λ added. added ≡ not (contains nat_cmp seen.old number)) }
     ensures after { IfOk result (λ _. (other : ℕ)
-        → contains nat_cmp seen.new other ≡ nat_eq number other || contains nat_cmp seen.old other) }
+        → contains nat_cmp seen.new other
+        ≡ nat_eq number other || contains nat_cmp seen.old other) }
 {
     Ok(seen.insert(number)?)
 }
@@ -23,7 +24,8 @@ pub(crate) fn first_repeat(
     alloc: Global,
     numbers: &[Option<u64>],
 ) -> Result<Option<usize>, AllocError>
-    ensures { IfOk result (λ place. MatchOption place (AreOnce numbers.now) (IsRepeat numbers.now)) }
+    ensures { IfOk result
+        (λ place. MatchOption place (AreOnce numbers.now) (IsRepeat numbers.now)) }
 {
     let mut seen = BTreeSet::new(alloc);
     'places: for i in 0..numbers.len() {
