@@ -1,0 +1,6 @@
+mod Repeated
+mod SlotsOff
+mod Reading
+mod LinesOff
+mod EndsOff
+mod EndsTold

@@ -1,0 +1,5 @@
+pub mod Tells
+pub mod Repeats
+pub mod Slots
+pub mod Lines
+pub mod Ends
