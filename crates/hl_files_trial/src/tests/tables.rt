@@ -29,6 +29,7 @@ fn answers_call<T: Filed>(
         Some(reply) => Said::Reply(reply),
         None => Said::NoSpace,
     };
+    assert!(rt; !said.is_memory(), "line {line}");
     let mut text = Vec::new(alloc);
     print_answer(alloc, &said, &mut text)?;
     text.pop();
