@@ -14,7 +14,7 @@ use Rattle.hl_nodes.specs.Breaks.{Breaks}
 use Rattle.hl_survey.specs.declared.found.FoundInode.{FoundInode}
 use Rattle.hl_survey.specs.Surveys.{AreSurveyed, IsFoundInode}
 use Rattle.hl_survey.specs.Stops.{IsBroken}
-use Rattle.hl_hierarchy.specs.Naming.{at_number, numbers, IsNameable}
+use Rattle.hl_hierarchy.specs.Naming.{at_number, numbers, EachBelow, IsNameable}
 
 -- the rules that look at directories alone
 abbrev pub IsHierarchyRule : Rule → Type 0
@@ -72,10 +72,10 @@ abbrev pub BreaksDirectory : Layout → FoundInode → Image → Rule → ℕ �
 BreaksDirectory g dir image rule block = (t : TableValues) (ino : ℕ)
     → IsFoundInode g image t ino dir → dir.inode.kind ≡ Dir → IsBrokenAnyhow g t image rule block
 
--- it is so where the directories below the number are named
+-- it is so where the directories below the number are named, and no other is noted
 abbrev pub BreaksNaming : Layout → List (Option FoundInode) → List ℕ → ℕ → Image → Rule → ℕ → Type 0
 BreaksNaming g found parents ino image rule block =
-    AreNamedBelow g image found parents ino → BreaksSurveyed g found image rule block
+    EachBelow parents ino → AreNamedBelow g image found parents ino → BreaksSurveyed g found image rule block
 
 -- none of the rules is broken at any address
 abbrev pub KeepsHierarchy : Layout → Image → TableValues → Type 0
