@@ -22,6 +22,6 @@ module _ {M : Type 0} where
       Now (history before) (λ s. AreSurveyed g s.content t found → KeepsHierarchy g s.content t)
   Answers history faults g t found before now (answer.Damaged block rule) =
       Now (history before) (λ s. AreSurveyed g s.content t found
-          → (rec : Record) → IsBroken g rec t s.content rule block)
+      → (rec : Record) → IsBroken g rec t s.content rule block)
   Answers history faults g t found before now answer.DiskFault = Rose (faults before) (faults now)
   Answers history faults g t found before now answer.Memory = Unit {0}

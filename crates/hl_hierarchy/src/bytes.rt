@@ -1,9 +1,9 @@
 //! The bytes of one directory, and its entries.
 
-ghost use Rattle.std.specs.Prelude.{◌≡◌, ◌↔◌, ◌≤◌, false, length, IfErr, IfOk, IsTrue, MatchOption};
+ghost use Rattle.std.specs.Prelude.{◌≡◌, ◌↔◌, ◌+◌, ◌*◌, ◌<◌, ◌≤◌, ◌++◌, false, length, IfErr, IfOk, IsTrue, MatchOption, OnOk};
+ghost use Rattle.hl_media.specs.Causes.{HasCause};
 ghost use Rattle.hl_media.specs.Moments.{Now};
 ghost use Rattle.hl_log.specs.Logs.{OnlyReads, site_blocks};
-ghost use Rattle.hl_inode.specs.declared.inode.Kind.TheVariants.{Dir};
 ghost use Rattle.hl_placed.specs.Blocks.{blocks_of};
 ghost use Rattle.hl_nodes.specs.Directories.{HoldsEntries};
 ghost use Rattle.hl_survey.specs.Stops.{Stops};
@@ -13,7 +13,7 @@ ghost use Rattle.hl_hierarchy.specs.Hierarchies.{BreaksDirectory};
 use hl_addr::Geometry;
 use hl_bytes::{BLOCK, is_zero};
 use hl_dir::{Entry, decode};
-use hl_media::Machine;
+use hl_media::{Failed, Machine};
 use hl_nodes::{Rule, is_in_log};
 use hl_survey::{FoundInode, SurveyStop};
 use hl_tree::List;
@@ -40,6 +40,36 @@ fn is_counted(size: u64, pointers: &[u32]) -> bool
     pointers.len() as u64 == size.div_ceil(4096)
 }
 
+/// Reads a block.
+fn read_block<M: Machine>(machine: &mut M, at: u32, out: &mut [u8]) -> Result<(), Failed>
+    requires size { length out.old ≡ 4096 }
+    requires within { at < M.blocks machine.old }
+    ensures bytes { OnOk result (Now (M.history machine.old) (λ s. s.content at ≡ out.new)) }
+    ensures size { length out.new ≡ 4096 }
+    ensures machine { OnlyReads M.history M.blocks M.faults M.write_faults M.say_faults
+        machine.old machine.new }
+    ensures fault { HasCause (M.faults machine.old) (M.faults machine.new) result }
+{
+    machine.read(at, out)
+}
+
+/// Reads a block, and puts it behind some bytes.
+fn append_block<M: Machine>(machine: &mut M, at: u32, bytes: &mut Vec<u8>) -> Result<(), SurveyStop>
+    requires { at < M.blocks machine.old }
+    ensures bytes { OnOk result (Now (M.history machine.old)
+        (λ s. bytes.new.items ≡ bytes.old.items ++ s.content at)) }
+    ensures size { OnOk result (length bytes.new.items ≡ length bytes.old.items + 4096) }
+    ensures stops { IfErr result (Stops M.history M.faults (λ image rule block. ⊥)
+        machine.old machine.new) }
+    ensures machine { OnlyReads M.history M.blocks M.faults M.write_faults M.say_faults
+        machine.old machine.new }
+{
+    let mut block = [0; BLOCK];
+    read_block(machine, at, &mut block)?;
+    bytes.extend_from_slice(&block)?;
+    Ok(())
+}
+
 /// Reads the blocks at these addresses, each once, one behind the other.
 fn read_blocks<M: Machine>(
     alloc: Global,
@@ -58,10 +88,8 @@ fn read_blocks<M: Machine>(
         machine.old machine.new }
 {
     let mut bytes = Vec::new(alloc);
-    let mut block = [0; BLOCK];
     'pointers: for i in 0..pointers.len() {
-        machine.read(pointers[i], &mut block)?;
-        bytes.extend_from_slice(&block)?;
+        append_block(machine, pointers[i], &mut bytes)?;
     }
     Ok(bytes)
 }

@@ -83,6 +83,33 @@ fn name_number<M: Machine>(
     }
 }
 
+/// Notes each directory for the numbers that its entries name, where none is noted yet.
+fn name_all<M: Machine>(
+    alloc: Global,
+    machine: &mut M,
+    geometry: &Geometry,
+    found: &[Option<FoundInode>],
+    parents: &mut [u32],
+) -> Result<(), SurveyStop>
+    requires room { site_blocks geometry.now ≤ M.blocks machine.old }
+    requires size { length found.now ≡ geometry.now.inodes }
+    requires parents { length parents.old ≡ length found.now }
+    requires free { EachBelow parents.old 1 }
+    ensures names { OnOk result (Now (M.history machine.old)
+        (λ s. (t : TableValues) → AreSurveyed geometry.now s.content t found.now
+        → AreNamed geometry.now s.content found.now parents.new)) }
+    ensures below { OnOk result (EachBelow parents.new (length found.now)) }
+    ensures stops { IfErr result (Stops M.history M.faults (BreaksSurveyed geometry.now found.now)
+        machine.old machine.new) }
+    ensures machine { OnlyReads M.history M.blocks M.faults M.write_faults M.say_faults
+        machine.old machine.new }
+{
+    'numbers: for ino in 1..geometry.inodes {
+        name_number(alloc, machine, geometry, found, parents, ino)?;
+    }
+    Ok(())
+}
+
 /// The directory that names each number, from 0 on, 0 where none does. Each block of each directory is read once.
 pub(crate) fn name_numbers<M: Machine>(
     alloc: Global,
@@ -103,9 +130,6 @@ pub(crate) fn name_numbers<M: Machine>(
         machine.old machine.new }
 {
     let mut parents = vec![in alloc; 0; found.len()]?;
-    let named = parents.as_mut_slice();
-    'numbers: for ino in 1..geometry.inodes {
-        name_number(alloc, machine, geometry, found, named, ino)?;
-    }
+    name_all(alloc, machine, geometry, found, parents.as_mut_slice())?;
     Ok(parents)
 }

@@ -56,8 +56,6 @@ const FIELDS: [(usize, usize, u32); 32] = [
     (81, 4, 0x6301),
 ];
 
-const SAME: (usize, usize, u32) = (75, 0, 0);
-
 fn put(image: &mut [u8], field: (usize, usize, u32)) {
     if field.0 < 1_984 && field.1 < 4_093 && image.len() == BYTES {
         put_u32(image, BLOCK * field.0 + field.1, field.2);
@@ -115,11 +113,11 @@ fn tables_of(alloc: Global, site: &Geometry, numbers: u32) -> Result<Tables, All
     Ok(tables)
 }
 
-/// What is answered of the disk with two fields changed, where the numbers from 1 up to one are in use and the call of a
+/// What is answered of the disk with some fields changed, where the numbers from 1 up to one are in use and the call of a
 /// number fails.
 fn answer_of(
     alloc: Global,
-    fields: [(usize, usize, u32); 2],
+    fields: &[(usize, usize, u32)],
     numbers: u32,
     fails: u64,
 ) -> Result<HierarchyAnswer, Fail> {
@@ -128,7 +126,7 @@ fn answer_of(
     let tables = tables_of(alloc, &site, numbers)?;
     let mut image = image_of(alloc)?;
     for field in fields {
-        put(&mut image, field);
+        put(&mut image, *field);
     }
     let mut machine = MemMachine::of_image(alloc, &image)?;
     machine.fail_call(alloc, fails)?;
@@ -143,34 +141,24 @@ fn answer_of(
 
 #[test]
 fn a_hand_made_disk_is_in_order(rt: HostRuntime) -> Result<(), Fail> {
-    let answer = answer_of(rt.alloc(), [SAME, SAME], 5, 0)?;
+    let answer = answer_of(rt.alloc(), &[], 5, 0)?;
     assert!(rt; answer == HierarchyAnswer::Kept);
     Ok(())
 }
 
 #[test]
-fn what_is_off_is_told(rt: HostRuntime) -> Result<(), Fail> {
-    // A hole; bytes past the size; names out of order; a name that is cut off; an entry that names the root, itself, a number
-    // that isn't in use, and one past the site; two entries that name one; one that another directory names.
-    for (block, at, value, told, rule) in [
-        (71, 32, NOTHING, 71, Rule::DirectoryBytes),
-        (70, 32, NOTHING, 70, Rule::DirectoryBytes),
-        (80, 12, 1, 70, Rule::DirectoryBytes),
-        (80, 4, 0x0003_6301, 70, Rule::DirectoryBytes),
-        (81, 4, 0x6302, 71, Rule::DirectoryBytes),
-        (81, 0, 1, 71, Rule::DirectoryEntry),
-        (81, 0, 5, 71, Rule::DirectoryEntry),
-        (81, 0, 512, 71, Rule::DirectoryEntry),
-        (81, 0, 0, 71, Rule::DirectoryEntry),
-        (80, 0, 3, 70, Rule::DirectoryEntry),
-        (81, 0, 3, 71, Rule::DirectoryEntry),
-        (81, 0, 2, 71, Rule::DirectoryEntry),
+fn bytes_that_are_off_are_told(rt: HostRuntime) -> Result<(), Fail> {
+    // A hole; bytes past the size; names out of order; a name that is cut off.
+    for (block, at, value, told) in [
+        (71, 32, NOTHING, 71),
+        (80, 12, 1, 70),
+        (80, 4, 0x0003_6301, 70),
+        (81, 4, 0x6302, 71),
     ] {
-        let answer = answer_of(rt.alloc(), [(block, at, value), SAME], 5, 0)?;
-        let block_told = told;
+        let answer = answer_of(rt.alloc(), &[(block, at, value)], 5, 0)?;
         let wanted = HierarchyAnswer::Damaged {
-            block: block_told,
-            rule,
+            block: told,
+            rule: Rule::DirectoryBytes,
         };
         assert!(rt; answer == wanted, "block {block} at {at}");
     }
@@ -178,48 +166,62 @@ fn what_is_off_is_told(rt: HostRuntime) -> Result<(), Fail> {
 }
 
 #[test]
+fn an_entry_that_is_off_is_told(rt: HostRuntime) -> Result<(), Fail> {
+    // The root, a number that isn't in use, one past the site, number 0, and two that another entry names.
+    for (block, value, told) in [
+        (81, 1, 71),
+        (81, 5, 71),
+        (81, 512, 71),
+        (81, 0, 71),
+        (80, 3, 70),
+        (81, 3, 71),
+    ] {
+        let answer = answer_of(rt.alloc(), &[(block, 0, value)], 5, 0)?;
+        let wanted = HierarchyAnswer::Damaged {
+            block: told,
+            rule: Rule::DirectoryEntry,
+        };
+        assert!(rt; answer == wanted, "block {block}, number {value}");
+    }
+    Ok(())
+}
+
+#[test]
 fn what_nothing_leads_to_is_told(rt: HostRuntime) -> Result<(), Fail> {
     // Number 5 is in use, and no entry names it.
-    let answer = answer_of(rt.alloc(), [SAME, SAME], 6, 0)?;
+    let answer = answer_of(rt.alloc(), &[], 6, 0)?;
     let lost = HierarchyAnswer::Damaged {
         block: 74,
         rule: Rule::LostInode,
     };
     assert!(rt; answer == lost);
-    // Directory 5 names itself.
-    let answer = answer_of(rt.alloc(), [(74, 16, 6), (74, 32, 82)], 6, 0)?;
-    let empty = HierarchyAnswer::Damaged {
-        block: 74,
-        rule: Rule::DirectoryBytes,
-    };
-    assert!(rt; answer == empty);
-    // The root names nothing, and 2 comes round by 4.
-    let answer = answer_of(rt.alloc(), [(70, 16, 0), (70, 32, NOTHING)], 3, 0)?;
-    let named = HierarchyAnswer::Damaged {
+    // The root names 3 alone, and directory 2 itself.
+    let fields = [
+        (70, 16, 6),
+        (80, 0, 3),
+        (80, 4, 0x6101),
+        (80, 8, 0),
+        (81, 0, 2),
+    ];
+    let answer = answer_of(rt.alloc(), fields.as_slice(), 4, 0)?;
+    let round = HierarchyAnswer::Damaged {
         block: 71,
-        rule: Rule::DirectoryEntry,
+        rule: Rule::LostInode,
     };
-    assert!(rt; answer == named);
-    Ok(())
-}
-
-#[test]
-fn a_ring_of_directories_is_lost(rt: HostRuntime) -> Result<(), Fail> {
-    // The root is empty, and directory 2 names itself.
-    let fields = [(70, 16, 0), (81, 0, 2)];
-    let answer = answer_of(rt.alloc(), fields, 3, 0)?;
-    assert!(rt; answer != HierarchyAnswer::Kept);
+    assert!(rt; answer == round);
     Ok(())
 }
 
 #[test]
 fn a_failed_read_is_a_fault_and_no_third_block_is_read(rt: HostRuntime) -> Result<(), Fail> {
     // The survey reads 4 blocks, and there are two directories of a block each.
-    for fails in [5, 6] {
-        let answer = answer_of(rt.alloc(), [SAME, SAME], 5, fails)?;
-        assert!(rt; answer == HierarchyAnswer::DiskFault, "call {fails}");
+    for (fails, wanted) in [
+        (5, HierarchyAnswer::DiskFault),
+        (6, HierarchyAnswer::DiskFault),
+        (7, HierarchyAnswer::Kept),
+    ] {
+        let answer = answer_of(rt.alloc(), &[], 5, fails)?;
+        assert!(rt; answer == wanted, "call {fails}");
     }
-    let answer = answer_of(rt.alloc(), [SAME, SAME], 5, 7)?;
-    assert!(rt; answer == HierarchyAnswer::Kept);
     Ok(())
 }
