@@ -32,15 +32,15 @@ module _ (g : Layout) (image : Image) (t : TableValues) (found : List (Option Fo
   pub lost_breaks : (ino : ℕ) → IsLost found parents ino → (dir : FoundInode) → at_number found ino ≡ Some dir → (rec : Record) (parts : List Summary) → Breaks g image rec parts t LostInode dir.address
   lost_breaks ino lost dir is rec parts = (
     ino,
-    in_use found g image t limits are ino dir is,
-    (at_found found g image t limits are ino dir is).there.2,
+    in_use found g image t are limits ino dir is,
+    (at_found found g image t are ino dir is).there.2,
     λ names leads. lost.never (leads_climbs g image t found limits are parents named names 1 ino leads (0, refl)),
   )
 
   module _ (rec : Record) (parts : List Summary) (address : ℕ) where
     bytes_kept : Breaks g image rec parts t DirectoryBytes address → ⊥
     bytes_kept (ino, v, there, kind, none) =
-        let f = found_there found g image t limits are ino v address there in
+        let f = found_there found g image t are limits ino v address there in
         let held = named.held ino f.0 (below_count found ino f.0 f.1) f.1 (ap (λ (w : Inode). w.kind) f.2 ∙ kind) in
         none held.0 (subst (λ (w : Inode). HoldsEntries g image w held.0) f.2 held.1)
 
@@ -50,8 +50,8 @@ module _ (g : Layout) (image : Image) (t : TableValues) (found : List (Option Fo
         let one : other ≡ ino = sym (entry_parent g image t found limits are parents named other at j d x) ∙ ap (slice_index parents) same ∙ entry_parent g image t found limits are parents named ino address k e h in
         ⊎_elim {C = ⊥} (λ ne. ne one)
         (λ ne.
-        let a = entry_held found g image t limits are ino address k e h in
-        let b = entry_held found g image t limits are other at j d x in
+        let a = entry_held found g image t are limits ino address k e h in
+        let b = entry_held found g image t are limits other at j d x in
         let list : x.entries ≡ h.entries = one_list found g image ino h.entries x.entries a (subst (λ (n : ℕ). HoldsAt g image found n x.entries) one b) in
         let within : j < length h.entries = subst (λ (l : List Entry). j < length l) list x.within in
         let number : slice_index (numbers h.entries) j ≡ slice_index (numbers h.entries) k =
@@ -70,13 +70,13 @@ module _ (g : Layout) (image : Image) (t : TableValues) (found : List (Option Fo
             let may = (entry_noted g image t found limits are parents named ino address k e h).may in
             let used : IsSome (at_number found e.ino) = subst (λ (c : ℕ). IsSome (at_number found c)) number may.used in
             let dir = dir_of found e.ino used in
-            unused (in_use found g image t limits are e.ino dir.0 dir.1)
+            unused (in_use found g image t are limits e.ino dir.0 dir.1)
         by (inr (inl root)) = (entry_noted g image t found limits are parents named ino address k e h).may.other (number ∙ root)
         by (inr (inr (other, at, j, d, x, same, apart))) = only_entry ino other address at k j e d h x same apart
 
     lost_kept : AreBelowRoot found parents → Breaks g image rec parts t LostInode address → ⊥
     lost_kept below (ino, use, _, none) =
-        let climbs = below ino use.low (use_found found g image t limits are ino use) in
+        let climbs = below ino use.low (use_found found g image t are ino use) in
         let leads = climbs_leads g image t found limits are parents named climbs.0 ino climbs.1 in
         none leads.0 leads.1
 

@@ -24,7 +24,7 @@ module _ (g : Layout) (image : Image) (t : TableValues) (found : List (Option Fo
   -- an entry of the image is noted
   pub entry_noted : (ino address k : ℕ) (e : Entry) (h : HasEntry g image t ino address k e) → IsNoted found parents ino h.entries k
   entry_noted ino address k e h =
-      let held = entry_held found g image t limits are ino address k e h in
+      let held = entry_held found g image t are limits ino address k e h in
       named.noted ino h.entries (below_count found ino held.dir held.is) held k h.within
 
   pub entry_parent : (ino address k : ℕ) (e : Entry) → HasEntry g image t ino address k e → slice_index parents e.ino ≡ ino
@@ -43,7 +43,7 @@ module _ (g : Layout) (image : Image) (t : TableValues) (found : List (Option Fo
       let noted = named.noted (slice_index parents 0) names.entries (below_count found (slice_index parents 0) names.held.dir names.held.is) names.held names.index names.within in
       let used : IsSome (at_number found 0) = subst (λ (c : ℕ). IsSome (at_number found c)) names.is noted.may.used in
       let dir = dir_of found 0 used in
-      absurd (zero_free found g image t limits are dir.0 dir.1)) (cases_eq (slice_index parents 0) 0)
+      absurd (zero_free found g image t are dir.0 dir.1)) (cases_eq (slice_index parents 0) 0)
 
   zero_never : (n : ℕ) → ClimbsIn parents n 0 → ⊥
   zero_never zero is = omega arith
@@ -59,7 +59,7 @@ module _ (g : Layout) (image : Image) (t : TableValues) (found : List (Option Fo
       (λ some.
       let names = named.named x some in
       let own = climbs_leads n parent is in
-      let h = held_entry found g image t limits are parent names.entries names.held names.index names.within in
+      let h = held_entry found g image t are parent names.entries names.held names.index names.within in
       let to : (entry_at names.entries names.index).ino ≡ x = sym (entry_number names.entries names.index names.within) ∙ names.is in (
         own.0 ++ (entry_at names.entries names.index).name ∷ [],
         subst (Leads g image t 1 (own.0 ++ (entry_at names.entries names.index).name ∷ [])) to

@@ -71,7 +71,7 @@ module _ (found : List (Option FoundInode)) where
     pub one_list : (ino : ℕ) (es fs : List Entry) → HoldsAt g image found ino es → HoldsAt g image found ino fs → fs ≡ es
     one_list ino es fs a b = one_held g image a.dir.inode es fs a.holds (subst (λ (d : FoundInode). HoldsEntries g image d.inode fs) (one_dir ino b.dir a.dir b.is a.is) b.holds)
 
-    module _ (t : TableValues) (limits : IsWithinLimits g) (are : AreSurveyed g image t found) where
+    module _ (t : TableValues) (are : AreSurveyed g image t found) where
       -- what was found of a number in use
       pub at_found : (ino : ℕ) (dir : FoundInode) → at_number found ino ≡ Some dir → IsFoundInode g image t ino dir
       at_found ino dir is =
@@ -83,11 +83,6 @@ module _ (found : List (Option FoundInode)) where
       pub zero_free : (dir : FoundInode) → at_number found 0 ≡ Some dir → ⊥
       zero_free dir is = (let e = sym are.zero ∙ is in cc)
 
-      pub in_use : (ino : ℕ) (dir : FoundInode) → at_number found ino ≡ Some dir → IsInUse g t ino
-      in_use ino dir is =
-          let there = (at_found ino dir is).there in
-          record { low = there.0; high = there.1; entry = λ none. in_log-some g limits dir.address there.3.in_log (sym there.2 ∙ none) }
-
       pub use_found : (ino : ℕ) → IsInUse g t ino → IsSome (at_number found ino)
       use_found ino use = by (at_number found ino) (are.each ino use.high)
         where
@@ -95,26 +90,7 @@ module _ (found : List (Option FoundInode)) where
           by None (none, _) = absurd (use.entry none)
           by (Some dir) is = refl
 
-      -- the inode that stands at an address is the one that was found
-      pub found_there : (ino : ℕ) (v : Inode) (address : ℕ) → IsInodeIn g image t ino v address → (dir : FoundInode) × (at_number found ino ≡ Some dir) × (dir.inode ≡ v)
-      found_there ino v address there = by (at_number found ino) refl (are.each ino there.1)
-        where
-          by : (o : Option FoundInode) → at_number found ino ≡ o → IsFound g image t ino o → (dir : FoundInode) × (at_number found ino ≡ Some dir) × (dir.inode ≡ v)
-          by None e (none, _) = absurd (in_log-some g limits address there.3.in_log (sym there.2 ∙ none))
-          by (Some dir) e is =
-              let same : dir.address ≡ address = sym is.there.2 ∙ there.2 in
-              (dir, e, one_inode (image dir.address) (image address) dir.inode v (ap image (sym same)) is.there.3.spelled there.3.spelled)
-
-      -- an entry of the image is one of a directory that was found
-      pub entry_held : (ino address k : ℕ) (e : Entry) (h : HasEntry g image t ino address k e) → HoldsAt g image found ino h.entries
-      entry_held ino address k e h =
-          let f = found_there ino h.inode address h.there in record {
-            dir = f.0;
-            is = f.1;
-            kind = ap (λ (v : Inode). v.kind) f.2 ∙ h.dir;
-            holds = subst (λ (v : Inode). HoldsEntries g image v h.entries) (sym f.2) h.holds;
-          }
-
+      -- an entry of a directory that was found is one of the image
       pub held_entry : (ino : ℕ) (es : List Entry) (h : HoldsAt g image found ino es) (k : ℕ) → k < length es → HasEntry g image t ino h.dir.address k (entry_at es k)
       held_entry ino es h k lt = record {
         inode = h.dir.inode;
@@ -136,6 +112,41 @@ module _ (found : List (Option FoundInode)) where
             (λ high. absurd (let same : i ≡ ino = omega arith in none h.dir (ap (at_number found) (sym same) ∙ h.is) h.kind)) (cases_lt i ino);
         named = named.named;
       }
+
+      -- before the first directory nothing is noted
+      pub named_first : (parents : List ℕ) → EachBelow parents 1 → AreNamedBelow g image found parents 1
+      named_first parents below = record {
+        held = λ i dir lt is kind. absurd (let zero : i ≡ 0 = omega arith in zero_free dir (ap (at_number found) (sym zero) ∙ is));
+        noted = λ i es lt h. absurd (let zero : i ≡ 0 = omega arith in zero_free h.dir (ap (at_number found) (sym zero) ∙ h.is));
+        named = λ c some. absurd (let lt = below c in some (omega arith));
+      }
+
+      module _ (limits : IsWithinLimits g) where
+        -- what was found of a number is in use
+        pub in_use : (ino : ℕ) (dir : FoundInode) → at_number found ino ≡ Some dir → IsInUse g t ino
+        in_use ino dir is =
+            let there = (at_found ino dir is).there in
+            record { low = there.0; high = there.1; entry = λ none. in_log-some g limits dir.address there.3.in_log (sym there.2 ∙ none) }
+
+        -- the inode that stands at an address is the one that was found
+        pub found_there : (ino : ℕ) (v : Inode) (address : ℕ) → IsInodeIn g image t ino v address → (dir : FoundInode) × (at_number found ino ≡ Some dir) × (dir.inode ≡ v)
+        found_there ino v address there = by (at_number found ino) refl (are.each ino there.1)
+          where
+            by : (o : Option FoundInode) → at_number found ino ≡ o → IsFound g image t ino o → (dir : FoundInode) × (at_number found ino ≡ Some dir) × (dir.inode ≡ v)
+            by None e (none, _) = absurd (in_log-some g limits address there.3.in_log (sym there.2 ∙ none))
+            by (Some dir) e is =
+                let same : dir.address ≡ address = sym is.there.2 ∙ there.2 in
+                (dir, e, one_inode (image dir.address) (image address) dir.inode v (ap image (sym same)) is.there.3.spelled there.3.spelled)
+
+        -- an entry of the image is one of a directory that was found
+        pub entry_held : (ino address k : ℕ) (e : Entry) (h : HasEntry g image t ino address k e) → HoldsAt g image found ino h.entries
+        entry_held ino address k e h =
+            let f = found_there ino h.inode address h.there in record {
+              dir = f.0;
+              is = f.1;
+              kind = ap (λ (v : Inode). v.kind) f.2 ∙ h.dir;
+              holds = subst (λ (v : Inode). HoldsEntries g image v h.entries) (sym f.2) h.holds;
+            }
 
       module _ (ino : ℕ) (es : List Entry) (h : HoldsAt g image found ino es) (old : List ℕ) (named : AreNamedBelow g image found old ino) where
         -- WHERE IT IS ONE, its entries are noted

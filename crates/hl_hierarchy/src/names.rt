@@ -11,7 +11,8 @@ const ROOT: u32 = 1;
 
 /// Whether an entry may name the number: it is in use, and isn't the root.
 fn is_nameable(found: &[Option<FoundInode>], child: u32) -> bool
-    ensures { IsTrue result ↔ IsNameable found.now child }
+    ensures may { IsTrue result ↔ IsNameable found.now child }
+    ensures within { IsTrue result → child < length found.now }
 {
     child != ROOT && (child as usize) < found.len() && found[child as usize].is_some()
 }
@@ -25,7 +26,10 @@ fn note(found: &[Option<FoundInode>], parents: &mut [u32], ino: u32, child: u32)
     ensures not { result ≡ false → ¬ IsNameable found.now child
         ⊎ (slice_index parents.old child ≢ 0) }
 {
-    if !is_nameable(found, child) || parents[child as usize] != 0 {
+    if !is_nameable(found, child) {
+        return false;
+    }
+    if parents[child as usize] != 0 {
         return false;
     }
     parents[child as usize] = ino;

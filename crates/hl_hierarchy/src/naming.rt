@@ -3,6 +3,7 @@
 ghost use Rattle.std.specs.Prelude.{◌≡◌, ◌+◌, ◌<◌, ◌≤◌, length, IfErr, IfOk, OnOk, Some};
 ghost use Rattle.hl_media.specs.Moments.{Now};
 ghost use Rattle.hl_log.specs.Logs.{OnlyReads, site_blocks};
+ghost use Rattle.hl_addr.specs.Layout.{IsWithinLimits};
 ghost use Rattle.hl_tables.specs.Values.{TableValues};
 ghost use Rattle.hl_survey.specs.Stops.{Stops};
 ghost use Rattle.hl_survey.specs.Surveys.{AreSurveyed};
@@ -99,6 +100,7 @@ fn name_all<M: Machine>(
         (λ s. (t : TableValues) → AreSurveyed geometry.now s.content t found.now
         → AreNamed geometry.now s.content found.now parents.new)) }
     ensures below { OnOk result (EachBelow parents.new (length found.now)) }
+    ensures limits { OnOk result (IsWithinLimits geometry.now) }
     ensures stops { IfErr result (Stops M.history M.faults (BreaksSurveyed geometry.now found.now)
         machine.old machine.new) }
     ensures machine { OnlyReads M.history M.blocks M.faults M.write_faults M.say_faults
@@ -124,6 +126,7 @@ pub(crate) fn name_numbers<M: Machine>(
         → AreNamed geometry.now s.content found.now parents.items)) }
     ensures size { IfOk result (λ parents. length parents.items ≡ length found.now) }
     ensures below { IfOk result (λ parents. EachBelow parents.items (length found.now)) }
+    ensures limits { OnOk result (IsWithinLimits geometry.now) }
     ensures stops { IfErr result (Stops M.history M.faults (BreaksSurveyed geometry.now found.now)
         machine.old machine.new) }
     ensures machine { OnlyReads M.history M.blocks M.faults M.write_faults M.say_faults

@@ -1,0 +1,18 @@
+use Rattle.std.proofs.Common.{◌≡◌, ◌⊎◌, ◌≢◌, length, sym, subst, arith}
+use Rattle.std.specs.Prelude.{slice_index}
+use Rattle.hl_hierarchy.specs.Naming.{numbers, IsNameable, IsOffAt, Notes}
+use Rattle.hl_hierarchy.proofs.Noting.{length-numbers, notes_more, notes_none, number_of, off_at}
+use Rattle.hl_hierarchy.proofs.names.note_entries.Goals as goal
+
+pub entries-init : goal.entries-init
+entries-init c = notes_none c.args.found.now (numbers c.args.entries.now) c.args.parents.now c.args.ino
+
+pub entries-preserved : goal.entries-preserved
+entries-preserved c =
+    let es = c.args.entries.now in
+    let k = c.entries.k in
+    let child = number_of es k c.index-entries-k.result c.entries-test.true (sym c.index-entries-k.is) in
+    let found = c.args.found.now in
+    notes_more found (numbers es) c.args.parents.now c.args.ino c.entries.parents k c.entries.invariant c.note.new.parents c.requires.low
+    (subst (IsNameable found) (sym child) (c.note.ensures.may c.if-not-note.false))
+    (subst (Notes c.entries.parents c.note.new.parents c.args.ino) (sym child) (c.note.ensures.noted c.if-not-note.false))
