@@ -75,8 +75,8 @@ module _ (g : Layout) (image : Image) (t : TableValues) (found : List (Option Fo
         by (inr (inr (other, at, j, d, x, same, apart))) = only_entry ino other address at k j e d h x same apart
 
     lost_kept : AreBelowRoot found parents → Breaks g image rec parts t LostInode address → ⊥
-    lost_kept below (ino, use, _, none) =
-        let climbs = below ino use.low (use_found found g image t are ino use) in
+    lost_kept below (ino, taken, _, none) =
+        let climbs = below ino taken.low (use_found found g image t are ino taken) in
         let leads = climbs_leads g image t found limits are parents named climbs.0 ino climbs.1 in
         none leads.0 leads.1
 

@@ -47,7 +47,7 @@ module _ (found : List (Option FoundInode)) where
   some_or_none None some = (let e = some in cc)
   some_or_none (Some dir) some = (dir, refl)
 
-  -- a number in use has an inode that was found
+  -- a number in taken has an inode that was found
   pub dir_of : (ino : ℕ) → IsSome (at_number found ino) → (dir : FoundInode) × (at_number found ino ≡ Some dir)
   dir_of ino some = some_or_none (at_number found ino) some
 
@@ -72,7 +72,7 @@ module _ (found : List (Option FoundInode)) where
     one_list ino es fs a b = one_held g image a.dir.inode es fs a.holds (subst (λ (d : FoundInode). HoldsEntries g image d.inode fs) (one_dir ino b.dir a.dir b.is a.is) b.holds)
 
     module _ (t : TableValues) (are : AreSurveyed g image t found) where
-      -- what was found of a number in use
+      -- what was found of a number in taken
       pub at_found : (ino : ℕ) (dir : FoundInode) → at_number found ino ≡ Some dir → IsFoundInode g image t ino dir
       at_found ino dir is =
           let lt = below_count ino dir is in
@@ -84,10 +84,10 @@ module _ (found : List (Option FoundInode)) where
       zero_free dir is = (let e = sym are.zero ∙ is in cc)
 
       pub use_found : (ino : ℕ) → IsInUse g t ino → IsSome (at_number found ino)
-      use_found ino use = by (at_number found ino) (are.each ino use.high)
+      use_found ino taken = by (at_number found ino) (are.each ino taken.high)
         where
           by : (o : Option FoundInode) → IsFound g image t ino o → IsSome o
-          by None (none, _) = absurd (use.entry none)
+          by None (none, _) = absurd (taken.entry none)
           by (Some dir) is = refl
 
       -- an entry of a directory that was found is one of the image
@@ -122,7 +122,7 @@ module _ (found : List (Option FoundInode)) where
       }
 
       module _ (limits : IsWithinLimits g) where
-        -- what was found of a number is in use
+        -- what was found of a number is in taken
         pub in_use : (ino : ℕ) (dir : FoundInode) → at_number found ino ≡ Some dir → IsInUse g t ino
         in_use ino dir is =
             let there = (at_found ino dir is).there in
@@ -203,13 +203,12 @@ module _ (found : List (Option FoundInode)) where
           lt : k < length es
           lt = let w = off.within in let n = length-numbers es in omega arith
 
-
           off_name : IsOffName g image t ino k (slice_index (numbers es) k)
           off_name = by off.off
             where
               by : ¬ IsNameable found (slice_index (numbers es) k) ⊎ ((slice_index old (slice_index (numbers es) k) ≢ 0) ⊎ ((j : ℕ) × (j < k) × (slice_index (numbers es) j ≡ slice_index (numbers es) k)))
                   → IsOffName g image t ino k (slice_index (numbers es) k)
-              by (inl never) = ⊎_elim (λ root. inr (inl root)) (λ other. inl (λ use. never (record { used = use_found (slice_index (numbers es) k) use; other = other }))) (cases_eq (slice_index (numbers es) k) 1)
+              by (inl never) = ⊎_elim (λ root. inr (inl root)) (λ other. inl (λ taken. never (record { used = use_found (slice_index (numbers es) k) taken; other = other }))) (cases_eq (slice_index (numbers es) k) 1)
               by (inr (inl some)) =
                   let names = named.named (slice_index (numbers es) k) some in
                   let low = below (slice_index (numbers es) k) in
