@@ -47,7 +47,7 @@ module _ (found : List (Option FoundInode)) where
   some_or_none None some = (let e = some in cc)
   some_or_none (Some dir) some = (dir, refl)
 
-  -- a number in taken has an inode that was found
+  -- a number in use has an inode that was found
   pub dir_of : (ino : ℕ) → IsSome (at_number found ino) → (dir : FoundInode) × (at_number found ino ≡ Some dir)
   dir_of ino some = some_or_none (at_number found ino) some
 
@@ -72,7 +72,7 @@ module _ (found : List (Option FoundInode)) where
     one_list ino es fs a b = one_held g image a.dir.inode es fs a.holds (subst (λ (d : FoundInode). HoldsEntries g image d.inode fs) (one_dir ino b.dir a.dir b.is a.is) b.holds)
 
     module _ (t : TableValues) (are : AreSurveyed g image t found) where
-      -- what was found of a number in taken
+      -- what was found of a number in use
       pub at_found : (ino : ℕ) (dir : FoundInode) → at_number found ino ≡ Some dir → IsFoundInode g image t ino dir
       at_found ino dir is =
           let lt = below_count ino dir is in
@@ -122,7 +122,7 @@ module _ (found : List (Option FoundInode)) where
       }
 
       module _ (limits : IsWithinLimits g) where
-        -- what was found of a number is in taken
+        -- what was found of a number is in use
         pub in_use : (ino : ℕ) (dir : FoundInode) → at_number found ino ≡ Some dir → IsInUse g t ino
         in_use ino dir is =
             let there = (at_found ino dir is).there in
