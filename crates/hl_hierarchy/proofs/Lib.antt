@@ -1,4 +1,5 @@
 pub mod BlockBytes
+pub mod Decoded
 pub mod HeldEntries
 pub mod Noting
 pub mod Descents
