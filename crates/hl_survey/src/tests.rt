@@ -1,13 +1,16 @@
 //! What no clause says: that a survey of a hand-made disk succeeds with ample memory, and what it tells of one that breaks
 //! each of the rules.
 
-ghost use Rattle.std.specs.Prelude.{IfOk, length, ◌≡◌, ◌∷◌, []};
-ghost use Rattle.hl_tables.specs.Values.{AreTables};
+ghost use Rattle.std.specs.Prelude.{IfOk, length, ◌≡◌, ◌≤◌};
+ghost use Rattle.hl_addr.specs.Layout.{table_blocks};
+ghost use Rattle.hl_log.specs.Logs.{site_blocks};
+ghost use Rattle.hl_tables.specs.Values.{SameShape, fresh};
 
 use super::*;
 use hl_addr::{Geometry, NOTHING, Numbers};
 use hl_bytes::{BLOCK, put_u32};
 use hl_inode::Kind;
+use hl_media::Machine;
 use hl_mem::MemMachine;
 use hl_nodes::Rule;
 use hl_super::Record;
@@ -53,9 +56,7 @@ fn put(image: &mut [u8], field: (usize, usize, u32)) {
     }
 }
 
-fn image_of(alloc: Global) -> Result<Vec<u8>, AllocError>
-    ensures { IfOk result (λ image. length image.items ≡ 8126464) }
-{
+fn image_of(alloc: Global) -> Result<Vec<u8>, AllocError> {
     let mut image = vec![in alloc; 0; BYTES]?;
     for i in 0..13 {
         put(&mut image, (70, 32 + 4 * i, NOTHING));
@@ -70,8 +71,10 @@ fn image_of(alloc: Global) -> Result<Vec<u8>, AllocError>
     Ok(image)
 }
 
+#[tactic(auto, unfolding(hl_addr::specs::Layout::table_blocks_of))]
 fn site(alloc: Global) -> Result<Geometry, Fail>
-    ensures { IfOk result (λ g. g ≡ record { k = 64; log = 16; lines = 14; inodes = 512; volumes = 4 ∷ [] }) }
+    ensures blocks { IfOk result (λ g. site_blocks g ≡ 1984) }
+    ensures tables { IfOk result (λ g. table_blocks g ≡ 4) }
 {
     let volumes = Numbers::of([4].to_vec(alloc)?);
     Ok(Geometry::new(64, 16, 14, 512, volumes).ok_or("off the limits")?)
@@ -93,22 +96,78 @@ fn record(alloc: Global) -> Result<Record, AllocError>
     })
 }
 
-/// Tables in which numbers 1 and 2 are in use, one number has another entry, and slot 0 is staged in line 3 with the serial
-/// 9.
-fn tables_of(alloc: Global, site: &Geometry, entry: (u32, u32)) -> Result<Tables, AllocError>
-    ensures { IfOk result (AreTables site.now) }
+/// Says where the inode of a number lies.
+fn enter(tables: &mut Tables, site: &Geometry, entry: (u32, u32))
+    requires { SameShape (fresh site.now) tables.old }
+    ensures { SameShape (fresh site.now) tables.new }
 {
-    let mut tables = Tables::new(alloc, site)?;
-    if 2 < site.inodes && entry.0 < site.inodes {
-        tables.set_inode(1, 70);
-        tables.set_inode(2, 71);
+    if entry.0 < site.inodes {
         tables.set_inode(entry.0, entry.1);
     }
+}
+
+/// Stages slot 0 in line 3, with the serial 9.
+fn stage(tables: &mut Tables)
+    ensures { SameShape tables.old tables.new }
+{
     let slots = tables.slots_mut();
     if 0 < slots.items().len() {
         slots.set(0, Slot::Staged { line: 3, serial: 9 });
     }
+}
+
+/// Tables in which a slot is staged.
+fn staged(alloc: Global, site: &Geometry) -> Result<Tables, AllocError>
+    ensures { IfOk result (λ t. SameShape (fresh site.now) t) }
+{
+    let mut tables = Tables::new(alloc, site)?;
+    stage(&mut tables);
     Ok(tables)
+}
+
+/// Tables in which numbers 1 and 2 are in use, one number has another entry, and a slot is staged.
+fn tables_of(alloc: Global, site: &Geometry, entry: (u32, u32)) -> Result<Tables, AllocError>
+    ensures { IfOk result (λ t. SameShape (fresh site.now) t) }
+{
+    let mut tables = staged(alloc, site)?;
+    enter(&mut tables, site, (1, 70));
+    enter(&mut tables, site, (2, 71));
+    enter(&mut tables, site, entry);
+    Ok(tables)
+}
+
+/// A disk of the site with these bytes.
+fn disk_of(alloc: Global, image: &[u8]) -> Result<MemMachine, Fail>
+    ensures { IfOk result (λ m. 1984 ≤ m.blocks) }
+{
+    if image.len() != BYTES {
+        return Err("another length")?;
+    }
+    let machine = MemMachine::of_image(alloc, image)?;
+    if machine.blocks() < 1_984 {
+        return Err("too few blocks")?;
+    }
+    Ok(machine)
+}
+
+/// Surveys the site, whose tables have their shapes.
+fn survey_site(
+    alloc: Global,
+    machine: &mut MemMachine,
+    site: &Geometry,
+    rec: &Record,
+    tables: &Tables,
+) -> Result<Vec<Option<FoundInode>>, SurveyStop>
+    requires room { site_blocks site.now ≤ machine.old.blocks }
+    requires blocks { length rec.now.tables ≡ table_blocks site.now }
+    requires shape { SameShape (fresh site.now) tables.now }
+{
+    let _ = tables.slots().items();
+    if site.inodes == 0 {
+        return Err(SurveyStop::Memory);
+    }
+    let _ = tables.inode(0);
+    survey(alloc, machine, site, rec, tables)
 }
 
 /// What a survey finds of the disk with a field changed and this entry, where the call of a number fails.
@@ -123,9 +182,9 @@ fn surveyed(
     let tables = tables_of(alloc, &site, entry)?;
     let mut image = image_of(alloc)?;
     put(&mut image, field);
-    let mut machine = MemMachine::of_image(alloc, &image)?;
+    let mut machine = disk_of(alloc, &image)?;
     machine.fail_call(alloc, fails)?;
-    Ok(survey(alloc, &mut machine, &site, &rec, &tables))
+    Ok(survey_site(alloc, &mut machine, &site, &rec, &tables))
 }
 
 #[test]
