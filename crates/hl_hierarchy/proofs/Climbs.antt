@@ -29,21 +29,24 @@ pub record IsClimbing (parents seen : List ℕ) (start at : ℕ) : Type 0 where
   pub up : Climbs parents start → Climbs parents at
   pub down : Climbs parents at → Climbs parents start
 
+-- 1 for a number that isn't marked
+abbrev pub blank : ℕ → ℕ
+blank mark = if mark == 0 then 1 else 0
+
 -- how many numbers aren't marked
 abbrev pub unmarked : List ℕ → ℕ
-unmarked seen = sum_by (λ (x : ℕ). if x == 0 then 1 else 0) seen
+unmarked seen = sum_by blank seen
+
+blank_marked : (mark : ℕ) → 1 ≤ mark → blank mark ≡ 0
+blank_marked mark low = grind (arith, nat_tests)
+
+one_less : (a b x y : ℕ) → a + x ≡ b + y → x ≡ 1 → y ≡ 0 → a < b
+one_less a b x y e one nil = omega arith
 
 -- marking one leaves fewer
 pub fewer : (seen : List ℕ) (at start : ℕ) → at < length seen → slice_index seen at ≡ 0 → 1 ≤ start → unmarked (set seen at start) < unmarked seen
 fewer seen at start lt none low =
-    let f : ℕ → ℕ = λ x. if x == 0 then 1 else 0 in
-    let e = sum_by-set f seen at start 0 lt in
-    let one : f (get_or seen at 0) ≡ 1 = ap f none in
-    let nil : f start ≡ 0 = not_zero start low in
-    omega arith
-  where
-    not_zero : (n : ℕ) → 1 ≤ n → (if n == 0 then 1 else 0) ≡ 0
-    not_zero n low = grind (arith, nat_tests)
+    one_less (unmarked (set seen at start)) (unmarked seen) (blank (get_or seen at 0)) (blank start) (sum_by-set blank seen at start 0 lt) (ap blank none) (blank_marked start low)
 
 -- a number is under the directory that is noted for it, unless it is the root
 under_parent : (parents : List ℕ) (at : ℕ) → at ≢ 1 → IsUnder parents at (slice_index parents at)

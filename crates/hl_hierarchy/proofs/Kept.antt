@@ -19,7 +19,7 @@ use Rattle.hl_hierarchy.specs.Naming.{at_number, numbers}
 use Rattle.hl_hierarchy.specs.Climbing.{AreBelowRoot, Climbs, IsLost}
 use Rattle.hl_hierarchy.specs.Hierarchies.{AreNamed, HoldsAt, IsHierarchyRule, KeepsHierarchy}
 use Rattle.hl_hierarchy.proofs.Noting.{number_of}
-use Rattle.hl_hierarchy.proofs.Naming.{at_found, below_count, dir_of, entry_held, found_there, in_use, one_list, use_found}
+use Rattle.hl_hierarchy.proofs.NamedNumbers.{at_found, below_count, dir_of, entry_held, found_there, in_use, one_list, use_found}
 use Rattle.hl_hierarchy.proofs.Leading.{climbs_leads, entry_noted, entry_parent, leads_climbs}
 
 -- a directory that holds no entries breaks the rule

@@ -13,7 +13,7 @@ use Rattle.hl_hierarchy.specs.Naming.{at_number, numbers}
 use Rattle.hl_hierarchy.specs.Climbing.{Climbs, ClimbsIn}
 use Rattle.hl_hierarchy.specs.Hierarchies.{AreNamed, HoldsAt, IsNoted}
 use Rattle.hl_hierarchy.proofs.Noting.{number_of}
-use Rattle.hl_hierarchy.proofs.Naming.{below_count, dir_of, entry_at, entry_held, entry_number, held_entry, zero_free}
+use Rattle.hl_hierarchy.proofs.NamedNumbers.{below_count, dir_of, entry_at, entry_held, entry_number, held_entry, zero_free}
 
 -- one name more leads to the number of its entry
 leads_on : (g : Layout) (image : Image) (t : TableValues) (names : List (List ℕ)) (from mid address k : ℕ) (e : Entry) → Leads g image t from names mid → HasEntry g image t mid address k e → Leads g image t from (names ++ e.name ∷ []) e.ino

@@ -4,6 +4,6 @@ pub mod HeldEntries
 pub mod Noting
 pub mod Descents
 pub mod Climbs
-pub mod Naming
+pub mod NamedNumbers
 pub mod Leading
 pub mod Kept

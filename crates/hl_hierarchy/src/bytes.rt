@@ -53,6 +53,13 @@ fn read_block<M: Machine>(machine: &mut M, at: u32, out: &mut [u8]) -> Result<()
     machine.read(at, out)
 }
 
+/// Puts a block behind some bytes.
+fn put_behind(bytes: &mut Vec<u8>, block: &[u8]) -> Result<(), AllocError>
+    ensures { OnOk result (bytes.new.items ≡ bytes.old.items ++ block.now) }
+{
+    bytes.extend_from_slice(block)
+}
+
 /// Reads a block, and puts it behind some bytes.
 fn append_block<M: Machine>(machine: &mut M, at: u32, bytes: &mut Vec<u8>) -> Result<(), SurveyStop>
     requires { at < M.blocks machine.old }
@@ -66,7 +73,7 @@ fn append_block<M: Machine>(machine: &mut M, at: u32, bytes: &mut Vec<u8>) -> Re
 {
     let mut block = [0; BLOCK];
     read_block(machine, at, &mut block)?;
-    bytes.extend_from_slice(&block)?;
+    put_behind(bytes, &block)?;
     Ok(())
 }
 

@@ -13,7 +13,7 @@ use Rattle.hl_hierarchy.specs.Bytes.{AreBlocks, AreInLog, HasOutside, SpellsNone
 use Rattle.hl_hierarchy.specs.Hierarchies.{BreaksDirectory}
 use Rattle.hl_hierarchy.proofs.HeldEntries.{held, none_outside, size_fits, spells}
 use Rattle.hl_hierarchy.proofs.Kept.{bytes_break}
-use Rattle.hl_hierarchy.proofs.Naming.{are_of}
+use Rattle.hl_hierarchy.proofs.NamedNumbers.{are_of}
 use Rattle.hl_hierarchy.proofs.bytes.read_entries.Goals as goal
 
 pub returns-then-not-is_counted-clause-stops : goal.returns-then-not-is_counted-clause-stops

@@ -6,7 +6,7 @@ use Rattle.hl_nodes.specs.declared.rule.Rule.TheVariants.{LostInode}
 use Rattle.hl_survey.proofs.Unchanged.{reads_then}
 use Rattle.hl_hierarchy.specs.Climbing.{AreBelowRoot, IsLost}
 use Rattle.hl_hierarchy.specs.Hierarchies.{AreNamed}
-use Rattle.hl_hierarchy.proofs.Naming.{dir_of}
+use Rattle.hl_hierarchy.proofs.NamedNumbers.{dir_of}
 use Rattle.hl_hierarchy.proofs.Kept.{hierarchy_kept, lost_breaks}
 use Rattle.hl_hierarchy.proofs.checking.try_rules.Goals as goal
 

@@ -8,7 +8,7 @@ use Rattle.hl_survey.specs.Surveys.{AreSurveyed}
 use Rattle.hl_survey.proofs.Stopping.{stops_then, stops_where}
 use Rattle.hl_survey.proofs.Unchanged.{held_before, reads_none, reads_then}
 use Rattle.hl_hierarchy.specs.Hierarchies.{AreNamedBelow, BreaksNaming, BreaksSurveyed, GoesOn}
-use Rattle.hl_hierarchy.proofs.Naming.{named_first}
+use Rattle.hl_hierarchy.proofs.NamedNumbers.{named_first}
 use Rattle.hl_hierarchy.proofs.naming.name_all.Goals as goal
 
 pub numbers-init : goal.numbers-init

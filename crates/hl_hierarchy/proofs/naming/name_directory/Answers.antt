@@ -7,7 +7,7 @@ use Rattle.hl_survey.proofs.Stopping.{stops_then, stops_where}
 use Rattle.hl_survey.proofs.Unchanged.{held_before, reads_none, reads_then}
 use Rattle.hl_hierarchy.specs.Naming.{numbers, IsOffSomewhere, NotesEach}
 use Rattle.hl_hierarchy.specs.Hierarchies.{BreaksDirectory, BreaksNaming, HoldsAt}
-use Rattle.hl_hierarchy.proofs.Naming.{are_of, at_found, below_more, entry_breaks, named_more}
+use Rattle.hl_hierarchy.proofs.NamedNumbers.{are_of, at_found, below_more, entry_breaks, named_more}
 use Rattle.hl_hierarchy.proofs.naming.name_directory.Goals as goal
 
 pub returns-in_err-entries-clause-stops : goal.returns-in_err-entries-clause-stops

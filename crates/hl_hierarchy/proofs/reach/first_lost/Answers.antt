@@ -3,7 +3,7 @@ use Rattle.std.specs.Prelude.{IsSome}
 use Rattle.std.proofs.lemmas.Bool.{cases_lt}
 use Rattle.hl_hierarchy.specs.Naming.{at_number}
 use Rattle.hl_hierarchy.specs.Climbing.{Climbs}
-use Rattle.hl_hierarchy.proofs.Naming.{below_count, dir_of}
+use Rattle.hl_hierarchy.proofs.NamedNumbers.{below_count, dir_of}
 use Rattle.hl_hierarchy.proofs.reach.first_lost.Goals as goal
 
 pub numbers-init : goal.numbers-init
