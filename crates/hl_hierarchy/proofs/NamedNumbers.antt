@@ -25,7 +25,8 @@ use Rattle.hl_hierarchy.specs.Naming.{at_number, numbers, EachBelow, IsNameable,
 use Rattle.hl_hierarchy.specs.Hierarchies.{AreNamedBelow, HoldsAt, IsNoted, NamesIn}
 use Rattle.hl_hierarchy.proofs.Noting.{length-numbers, number_of}
 
-no_entry : Entry
+-- an entry for places past the end
+pub no_entry : Entry
 no_entry = record { ino = 0; name = [] }
 
 -- entry k of a list

@@ -11,7 +11,7 @@ use Rattle.hl_hierarchy.proofs.bytes.read_blocks.Goals as goal
 pub pointers-init : goal.pointers-init
 pointers-init g c = record {
   machine = reads_none c.args.machine.now;
-  size = ap length c.new.ensures.items;
+  size = ap length c.new-bytes.ensures.items;
   blocks = λ h e j lt. absurd (omega arith);
 }
 
@@ -54,3 +54,6 @@ returns-clause-blocks g c h e =
       size = omega (arith, c.pointers.invariant.size);
       blocks = λ i lt. c.pointers.invariant.blocks h e i (omega arith);
     }
+
+pub returns-clause-stops : goal.returns-clause-stops
+returns-clause-stops g c = tt

@@ -53,17 +53,17 @@ returns-in-Some-clause-entries g c h e of =
     let bytes = c.in_ok-bytes.bytes.items in
     let blocks : AreBlocks (content h) pointers bytes = subst (λ (ps : List ℕ). AreBlocks (content h) ps bytes) c.as_slice-pointers.ensures.value (c.in_ok-bytes.ensures.blocks h e) in
     let logged : AreInLog site pointers = subst (AreInLog site) c.as_slice-pointers.ensures.value (c.are_in_log.ensures.so (cc)) in
-    let found = subst (λ (l : List ℕ). MatchOption c.in_ok-entries_in.field-0 (SpellsNone v.size l) (SpellsTo v.size l)) c.as_slice.ensures.value c.in_ok-entries_in.ensures in
+    let found = subst (λ (l : List ℕ). MatchOption c.in_ok-entries.field-0 (SpellsNone v.size l) (SpellsTo v.size l)) c.as_slice.ensures.value c.in_ok-entries.ensures in
     let some = subst (λ (o : Option (List Entry)). MatchOption o (SpellsNone v.size bytes) (SpellsTo v.size bytes)) c.in-Some.is found in
     held site (content h) v pointers of bytes blocks logged c.in-Some.entries some
 
-pub returns-in-None-clause-stops : goal.returns-in-None-clause-stops
-returns-in-None-clause-stops g c =
+pub returns-clause-stops : goal.returns-clause-stops
+returns-clause-stops g c =
     let site = c.args.geometry.now in
     let v = c.args.dir.now.inode in
     let pointers = c.args.dir.now.pointers.items in
     let bytes = c.in_ok-bytes.bytes.items in
-    let found = subst (λ (l : List ℕ). MatchOption c.in_ok-entries_in.field-0 (SpellsNone v.size l) (SpellsTo v.size l)) c.as_slice.ensures.value c.in_ok-entries_in.ensures in
+    let found = subst (λ (l : List ℕ). MatchOption c.in_ok-entries.field-0 (SpellsNone v.size l) (SpellsTo v.size l)) c.as_slice.ensures.value c.in_ok-entries.ensures in
     let none = subst (λ (o : Option (List Entry)). MatchOption o (SpellsNone v.size bytes) (SpellsTo v.size bytes)) c.in-None.is found in
     rw c.off_bytes-in-None.ensures
     (λ h e t ino is kind rec parts.
