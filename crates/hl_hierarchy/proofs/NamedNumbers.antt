@@ -1,5 +1,5 @@
 -- The directories of an image that was surveyed, and the numbers that they name.
-use Rattle.std.proofs.Common.{◌≡◌, ◌≢◌, ◌⊎◌, inl, inr, ⊎_elim, ℕ, suc, ◌+◌, ◌<◌, ◌≤◌, List, [], length, get_or, refl, sym, ◌∙◌, ap, subst, arith}
+use Rattle.std.proofs.Common.{◌≡◌, ◌≢◌, ◌⊎◌, inl, inr, ⊎_elim, ℕ, ◌+◌, ◌<◌, ◌≤◌, List, [], length, get_or, refl, sym, ◌∙◌, ap, subst, arith}
 use Rattle.std.specs.Prelude.{slice_index, Option, Some, None, IsSome}
 use Rattle.std.specs.List.{slice_index_or}
 use Rattle.std.proofs.lemmas.Bool.{cases_eq, cases_lt}
@@ -105,7 +105,7 @@ module _ (found : List (Option FoundInode)) where
 
       -- WHERE A NUMBER IS NO DIRECTORY nothing changes
       pub named_beside : (parents : List ℕ) (ino : ℕ) → ((dir : FoundInode) → at_number found ino ≡ Some dir → dir.inode.kind ≡ Dir → ⊥)
-          → AreNamedBelow g image found parents ino → AreNamedBelow g image found parents (suc ino)
+          → AreNamedBelow g image found parents ino → AreNamedBelow g image found parents (ino + 1)
       named_beside parents ino none named = record {
         held = λ i dir lt is kind. ⊎_elim (λ low. named.held i dir low is kind)
             (λ high. absurd (let same : i ≡ ino = omega arith in none dir (ap (at_number found) (sym same) ∙ is) kind)) (cases_lt i ino);
@@ -169,7 +169,7 @@ module _ (found : List (Option FoundInode)) where
           own_noted : (k : ℕ) → k < length es → IsNoted found new ino es k
           own_noted k lt = record { may = notes.may k lt; set = notes.set k lt; once = λ j jn e. one_place j k jn lt e }
 
-          noted_more : (i : ℕ) (fs : List Entry) → i < suc ino → HoldsAt g image found i fs → (k : ℕ) → k < length fs → IsNoted found new i fs k
+          noted_more : (i : ℕ) (fs : List Entry) → i < ino + 1 → HoldsAt g image found i fs → (k : ℕ) → k < length fs → IsNoted found new i fs k
           noted_more i fs lt held k within = ⊎_elim
               (λ low.
               let was = named.noted i fs low held k within in
@@ -180,7 +180,7 @@ module _ (found : List (Option FoundInode)) where
               subst (λ (n : ℕ). IsNoted found new n fs k) same (subst (λ (l : List Entry). IsNoted found new ino l k) list (own_noted k (subst (λ (l : List Entry). k < length l) (sym list) within))))
               (cases_lt i ino)
 
-          held_more : (i : ℕ) (dir : FoundInode) → i < suc ino → at_number found i ≡ Some dir → dir.inode.kind ≡ Dir → (fs : List Entry) × HoldsEntries g image dir.inode fs
+          held_more : (i : ℕ) (dir : FoundInode) → i < ino + 1 → at_number found i ≡ Some dir → dir.inode.kind ≡ Dir → (fs : List Entry) × HoldsEntries g image dir.inode fs
           held_more i dir lt is kind = ⊎_elim (λ low. named.held i dir low is kind)
               (λ high.
               let same : i ≡ ino = omega arith in
@@ -196,7 +196,7 @@ module _ (found : List (Option FoundInode)) where
               names_own : (c k : ℕ) → k < length es → slice_index (numbers es) k ≡ c → NamesIn g image found ino c
               names_own c k lt is = record { entries = es; held = h; index = k; within = lt; is = is }
 
-          pub named_more : AreNamedBelow g image found new (suc ino)
+          pub named_more : AreNamedBelow g image found new (ino + 1)
           named_more = record { held = held_more; noted = noted_more; named = names_more }
 
         -- AN ENTRY THAT IS OFF breaks the rule

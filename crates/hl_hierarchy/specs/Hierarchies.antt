@@ -1,5 +1,5 @@
 -- The directories of an image that was surveyed, and the numbers that their entries name.
-use Rattle.std.specs.Prelude.{◌≡◌, ◌≢◌, ◌⊎◌, ℕ, suc, ◌<◌, List, length, slice_index, Option, Some}
+use Rattle.std.specs.Prelude.{◌≡◌, ◌≢◌, ◌⊎◌, ℕ, ◌+◌, ◌<◌, List, length, slice_index, Option, Some}
 use Rattle.hl_media.specs.History.{Image}
 use Rattle.hl_addr.specs.Layout.{Layout}
 use Rattle.hl_super.specs.declared.record.Record.{Record}
@@ -56,7 +56,7 @@ AreNamed g image found parents = AreNamedBelow g image found parents (length fou
 -- it goes on to one number more
 abbrev pub GoesOn : Layout → Image → List (Option FoundInode) → List ℕ → List ℕ → ℕ → Type 0
 GoesOn g image found old new ino = (t : TableValues) → AreSurveyed g image t found
-    → AreNamedBelow g image found old ino → AreNamedBelow g image found new (suc ino)
+    → AreNamedBelow g image found old ino → AreNamedBelow g image found new (ino + 1)
 
 -- the rule is broken at the block, whatever record and chain the image has
 abbrev pub IsBrokenAnyhow : Layout → TableValues → Image → Rule → ℕ → Type 0

@@ -18,8 +18,8 @@ returns-in-None-clause-kept g c h e t are =
     hierarchy_kept c.args.geometry.now (content h) t found c.in_ok-parents.ensures.limits are parents (c.in_ok-parents.ensures.names h e t are)
     (subst (AreBelowRoot found) c.as_slice.ensures.value none)
 
-pub returns-in-Some-clause-stops : goal.returns-in-Some-clause-stops
-returns-in-Some-clause-stops g c h e t are rec parts =
+pub returns-clause-stops : goal.returns-clause-stops
+returns-clause-stops g c h e t are rec parts =
     let found = c.args.found.now in
     let parents = c.in_ok-parents.parents.items in
     let ino = c.in-Some.ino in

@@ -1,5 +1,6 @@
-use Rattle.std.proofs.Common.{◌≡◌, ◌⊎◌, ◌≢◌, length, sym, subst, arith}
+use Rattle.std.proofs.Common.{◌≡◌, ◌⊎◌, ◌≢◌, length, get_or, sym, ◌∙◌, ap, subst, arith}
 use Rattle.std.specs.Prelude.{slice_index}
+use Rattle.hl_dir.specs.declared.entry.Entry.{Entry}
 use Rattle.hl_hierarchy.specs.Naming.{numbers, IsNameable, IsOffAt, Notes}
 use Rattle.hl_hierarchy.proofs.Noting.{length-numbers, notes_more, notes_none, number_of, off_at}
 use Rattle.hl_hierarchy.proofs.names.note_entries.Goals as goal
@@ -11,7 +12,8 @@ pub entries-preserved : goal.entries-preserved
 entries-preserved c =
     let es = c.args.entries.now in
     let k = c.entries.k in
-    let child = number_of es k c.index-entries-k.result c.entries-test.true (sym c.index-entries-k.is) in
+    let e = c.index-entries-k.result in
+    let child : slice_index (numbers es) k ≡ (get_or es k e).ino = number_of es k e c.entries-test.true (sym c.index-entries-k.is) ∙ ap (λ (x : Entry). x.ino) c.index-entries-k.is in
     let found = c.args.found.now in
     notes_more found (numbers es) c.args.parents.now c.args.ino c.entries.parents k c.entries.invariant c.note.new.parents c.requires.low
     (subst (IsNameable found) (sym child) (c.note.ensures.may c.if-not-note.false))

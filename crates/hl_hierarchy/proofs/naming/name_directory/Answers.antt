@@ -44,8 +44,8 @@ returns-then-note_entries-clause-below g c below =
     let es = c.items.result.now in
     below_more c.args.found.now (numbers es) c.args.parents.now c.note_entries.new.parents (length es) c.args.ino (c.note_entries.ensures.noted c.if-note_entries.true) below
 
-pub returns-else-note_entries-clause-stops : goal.returns-else-note_entries-clause-stops
-returns-else-note_entries-clause-stops g c h e below named t are rec parts =
+pub returns-clause-stops : goal.returns-clause-stops
+returns-clause-stops g c h e below named t are rec parts =
     let site = c.args.geometry.now in
     let found = c.args.found.now in
     let dir = c.args.dir.now in
