@@ -1,4 +1,4 @@
-use Rattle.std.proofs.Common.{◌≡◌, ℕ, ◌<◌, ◌≤◌, ◌∙◌, ap, sym, subst, arith}
+use Rattle.std.proofs.Common.{◌≡◌, ℕ, ◌<◌, ◌≤◌, length, ◌∙◌, ap, sym, subst, arith}
 use Rattle.std.proofs.lemmas.Result.{err_from_is_err_and}
 use Rattle.hl_media.specs.History.{Image, MachineState, content}
 use Rattle.hl_addr.specs.Layout.{Layout}
@@ -43,3 +43,11 @@ returns-in_err-name_number-clause-stops g c =
     c.args.machine.now c.name_number.new.machine c.numbers.invariant.named (λ image named rule block told t are. told c.numbers.invariant.below (named t are) t are) c.in_err-name_number.field-0.0
     (stops_then {M = g.row.M.Denot} g.M.Machine.history g.M.Machine.blocks g.M.Machine.faults g.M.Machine.write_faults g.M.Machine.say_faults Told c.args.machine.now c.numbers.machine c.name_number.new.machine
     c.numbers.invariant.machine c.in_err-name_number.field-0.0 c.in_err-name_number.ensures.stops))
+
+pub returns-clause-names : goal.returns-clause-names
+returns-clause-names g c h e t are =
+    let site = c.args.geometry.now in
+    let found = c.args.found.now in
+    let inodes = ap (λ (x : Layout). x.inodes) c.geometry.view_is in
+    let end : c.numbers.ino ≡ length found = omega (arith, inodes, c.numbers-test.false, c.numbers.auto.ino-end, c.geometry.invariant.inode_count.0, c.requires.size) in
+    subst (λ (n : ℕ). AreNamedBelow site (content h) found c.numbers.parents n) end (c.numbers.invariant.named h e t are)
