@@ -1,5 +1,5 @@
 -- What the rules of directories come to, where all directories are named.
-use Rattle.std.proofs.Common.{◌≡◌, ◌≢◌, ◌⊎◌, inl, inr, ⊎_elim, ℕ, ◌<◌, List, length, refl, sym, ◌∙◌, ap, subst, arith}
+use Rattle.std.proofs.Common.{◌≡◌, ◌≢◌, ◌⊎◌, inl, inr, ⊎_elim, ℕ, ◌<◌, List, length, refl, sym, ◌∙◌, ap, subst}
 use Rattle.std.specs.Prelude.{slice_index, Option, Some, IsSome}
 use Rattle.hl_media.specs.History.{Image}
 use Rattle.hl_addr.specs.Layout.{Layout, IsWithinLimits}
@@ -12,12 +12,12 @@ use Rattle.hl_dir.specs.declared.entry.Entry.{Entry}
 use Rattle.hl_nodes.specs.declared.rule.Rule.{Rule}
 use Rattle.hl_nodes.specs.declared.rule.Rule.TheVariants.{DirectoryBytes, DirectoryEntry, LostInode}
 use Rattle.hl_nodes.specs.Breaks.{Breaks}
-use Rattle.hl_nodes.specs.Directories.{HasEntry, HoldsEntries, IsInUse, IsOffName, Leads}
+use Rattle.hl_nodes.specs.Directories.{HasEntry, HoldsEntries, IsOffName}
 use Rattle.hl_survey.specs.declared.found.FoundInode.{FoundInode}
 use Rattle.hl_survey.specs.Surveys.{AreSurveyed, IsFoundInode}
 use Rattle.hl_hierarchy.specs.Naming.{at_number, numbers}
-use Rattle.hl_hierarchy.specs.Climbing.{AreBelowRoot, Climbs, IsLost}
-use Rattle.hl_hierarchy.specs.Hierarchies.{AreNamed, HoldsAt, IsHierarchyRule, KeepsHierarchy}
+use Rattle.hl_hierarchy.specs.Climbing.{AreBelowRoot, IsLost}
+use Rattle.hl_hierarchy.specs.Hierarchies.{AreNamed, HoldsAt, KeepsHierarchy}
 use Rattle.hl_hierarchy.proofs.Noting.{number_of}
 use Rattle.hl_hierarchy.proofs.NamedNumbers.{at_found, below_count, dir_of, entry_held, found_there, in_use, one_list, use_found}
 use Rattle.hl_hierarchy.proofs.Leading.{climbs_leads, entry_noted, entry_parent, leads_climbs}

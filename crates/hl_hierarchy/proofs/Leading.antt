@@ -1,6 +1,6 @@
 -- What entries lead to is what climbs to the root.
-use Rattle.std.proofs.Common.{◌≡◌, ◌≢◌, ⊎_elim, ℕ, zero, suc, ◌<◌, List, [], ◌∷◌, ◌++◌, length, refl, sym, ◌∙◌, ap, subst, arith}
-use Rattle.std.specs.Prelude.{slice_index, Option, Some, IsSome}
+use Rattle.std.proofs.Common.{◌≡◌, ⊎_elim, ℕ, zero, suc, List, [], ◌∷◌, ◌++◌, refl, sym, ◌∙◌, ap, subst, arith}
+use Rattle.std.specs.Prelude.{slice_index, Option, IsSome}
 use Rattle.std.proofs.lemmas.Bool.{cases_eq}
 use Rattle.hl_media.specs.History.{Image}
 use Rattle.hl_addr.specs.Layout.{Layout, IsWithinLimits}
@@ -9,9 +9,9 @@ use Rattle.hl_dir.specs.declared.entry.Entry.{Entry}
 use Rattle.hl_nodes.specs.Directories.{HasEntry, Leads}
 use Rattle.hl_survey.specs.declared.found.FoundInode.{FoundInode}
 use Rattle.hl_survey.specs.Surveys.{AreSurveyed}
-use Rattle.hl_hierarchy.specs.Naming.{at_number, numbers}
+use Rattle.hl_hierarchy.specs.Naming.{at_number}
 use Rattle.hl_hierarchy.specs.Climbing.{Climbs, ClimbsIn}
-use Rattle.hl_hierarchy.specs.Hierarchies.{AreNamed, HoldsAt, IsNoted}
+use Rattle.hl_hierarchy.specs.Hierarchies.{AreNamed, IsNoted}
 use Rattle.hl_hierarchy.proofs.Noting.{number_of}
 use Rattle.hl_hierarchy.proofs.NamedNumbers.{below_count, dir_of, entry_at, entry_held, entry_number, held_entry, zero_free}
 

@@ -1,5 +1,5 @@
 -- The bytes of a directory, by its pointers.
-use Rattle.std.specs.Prelude.{◌≡◌, ℕ, ◌+◌, ◌-◌, ◌*◌, ◌<◌, List, ◌++◌, length, take, slice_index}
+use Rattle.std.specs.Prelude.{◌≡◌, ℕ, ◌-◌, ◌*◌, ◌<◌, List, ◌++◌, length, take, slice_index}
 use Rattle.hl_media.specs.History.{Image}
 use Rattle.hl_addr.specs.Layout.{Layout}
 use Rattle.hl_bytes.specs.Fields.{zeros}

@@ -1,7 +1,6 @@
 -- What leads up to the root, by the directory that is noted for each number.
-use Rattle.std.specs.Prelude.{◌≡◌, ◌≢◌, ◌⊎◌, ℕ, zero, suc, ◌<◌, ◌≤◌, List, length, slice_index, Option, IsSome}
+use Rattle.std.specs.Prelude.{◌≡◌, ◌≢◌, ℕ, zero, suc, ◌<◌, ◌≤◌, List, length, slice_index, Option, IsSome}
 use Rattle.hl_survey.specs.declared.found.FoundInode.{FoundInode}
-use Rattle.hl_survey.specs.Surveys.{IsRootFound}
 use Rattle.hl_hierarchy.specs.Naming.{at_number}
 
 -- so many steps up from a number is the root

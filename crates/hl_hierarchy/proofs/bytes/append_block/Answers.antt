@@ -1,5 +1,4 @@
-use Rattle.std.proofs.Common.{◌≡◌, ℕ, ◌+◌, ◌++◌, List, length, refl, ◌∙◌, ap, sym, arith, length-append}
-use Rattle.hl_media.specs.History.{content}
+use Rattle.std.proofs.Common.{ℕ, ◌++◌, List, length, ◌∙◌, ap, sym, arith, length-append}
 use Rattle.hl_hierarchy.proofs.bytes.append_block.Goals as goal
 
 pub returns-clause-bytes : goal.returns-clause-bytes

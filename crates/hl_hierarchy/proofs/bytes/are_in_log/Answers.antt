@@ -1,4 +1,4 @@
-use Rattle.std.proofs.Common.{ℕ, ◌<◌, arith, below_more}
+use Rattle.std.proofs.Common.{◌<◌, arith, below_more}
 use Rattle.std.specs.Prelude.{slice_index}
 use Rattle.hl_image.specs.Places.{InLog, log_end}
 use Rattle.hl_hierarchy.proofs.bytes.are_in_log.Goals as goal

@@ -1,5 +1,4 @@
-use Rattle.std.proofs.Common.{◌≡◌, ◌-◌, List, length, take, refl, arith}
-use Rattle.std.proofs.lemmas.Grind.{common_steps}
+use Rattle.std.proofs.Common.{take, refl}
 use Rattle.hl_hierarchy.proofs.Decoded.{decoded}
 use Rattle.hl_hierarchy.proofs.bytes.entries_in.Goals as goal
 

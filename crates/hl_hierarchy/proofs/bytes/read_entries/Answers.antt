@@ -1,14 +1,11 @@
-use Rattle.std.proofs.Common.{◌≡◌, ℕ, ◌*◌, ◌≤◌, List, length, refl, ◌∙◌, ap, sym, subst, arith}
-use Rattle.std.specs.Prelude.{MatchOption, Option, Some, None}
+use Rattle.std.proofs.Common.{◌≡◌, ℕ, List, length, ◌∙◌, ap, subst, arith}
+use Rattle.std.specs.Prelude.{MatchOption, Option}
 use Rattle.std.proofs.lemmas.Result.{err_from_is_err_and}
-use Rattle.hl_media.specs.History.{Image, MachineState, content}
+use Rattle.hl_media.specs.History.{Image, content}
 use Rattle.hl_dir.specs.declared.entry.Entry.{Entry}
 use Rattle.hl_placed.specs.Blocks.{blocks_of}
 use Rattle.hl_nodes.specs.declared.rule.Rule.{Rule}
-use Rattle.hl_survey.specs.declared.found.SurveyStop.{SurveyStop}
-use Rattle.hl_survey.specs.Stops.{Stops}
 use Rattle.hl_survey.proofs.Stopping.{stops_where}
-use Rattle.hl_survey.proofs.Unchanged.{reads_none}
 use Rattle.hl_hierarchy.specs.Bytes.{AreBlocks, AreInLog, HasOutside, SpellsNone, SpellsTo}
 use Rattle.hl_hierarchy.specs.Hierarchies.{BreaksDirectory}
 use Rattle.hl_hierarchy.proofs.HeldEntries.{held, none_outside, size_fits, spells}

@@ -1,11 +1,9 @@
-use Rattle.std.proofs.Common.{◌≡◌, ℕ, List, refl, ◌∙◌, ap, sym, subst, arith}
-use Rattle.std.specs.Prelude.{MatchOption, Option, Some, None}
+use Rattle.std.proofs.Common.{ℕ, List, sym, subst}
+use Rattle.std.specs.Prelude.{MatchOption, Option}
 use Rattle.hl_media.specs.History.{content}
 use Rattle.hl_nodes.specs.Breaks.{Breaks}
 use Rattle.hl_nodes.specs.declared.rule.Rule.TheVariants.{LostInode}
-use Rattle.hl_survey.proofs.Unchanged.{reads_then}
 use Rattle.hl_hierarchy.specs.Climbing.{AreBelowRoot, IsLost}
-use Rattle.hl_hierarchy.specs.Hierarchies.{AreNamed}
 use Rattle.hl_hierarchy.proofs.NamedNumbers.{dir_of}
 use Rattle.hl_hierarchy.proofs.Kept.{hierarchy_kept, lost_breaks}
 use Rattle.hl_hierarchy.proofs.checking.try_rules.Goals as goal

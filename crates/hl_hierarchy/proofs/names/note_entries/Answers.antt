@@ -1,8 +1,8 @@
-use Rattle.std.proofs.Common.{◌≡◌, ◌⊎◌, ◌≢◌, length, get_or, sym, ◌∙◌, ap, subst, arith}
+use Rattle.std.proofs.Common.{◌≡◌, get_or, sym, ◌∙◌, ap, subst}
 use Rattle.std.specs.Prelude.{slice_index}
 use Rattle.hl_dir.specs.declared.entry.Entry.{Entry}
-use Rattle.hl_hierarchy.specs.Naming.{numbers, IsNameable, IsOffAt, Notes}
-use Rattle.hl_hierarchy.proofs.Noting.{length-numbers, notes_more, notes_none, number_of, off_at}
+use Rattle.hl_hierarchy.specs.Naming.{numbers, IsNameable, Notes}
+use Rattle.hl_hierarchy.proofs.Noting.{notes_more, notes_none, number_of}
 use Rattle.hl_hierarchy.proofs.names.note_entries.Goals as goal
 
 pub entries-init : goal.entries-init

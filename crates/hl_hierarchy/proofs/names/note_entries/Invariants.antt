@@ -1,4 +1,3 @@
-use Rattle.std.specs.Prelude.{◌≡◌, length}
 use Rattle.hl_hierarchy.specs.Naming.{numbers, NotesEach}
 use Rattle.hl_hierarchy.proofs.names.note_entries.Given as goal
 

@@ -1,4 +1,3 @@
-use Rattle.std.specs.Prelude.{◌≡◌, length}
 use Rattle.hl_media.specs.Moments.{Now}
 use Rattle.hl_log.specs.Logs.{OnlyReads}
 use Rattle.hl_tables.specs.Values.{TableValues}

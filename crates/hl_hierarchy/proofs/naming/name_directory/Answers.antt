@@ -1,10 +1,9 @@
-use Rattle.std.proofs.Common.{◌≡◌, ℕ, ◌<◌, ◌≤◌, List, length, refl, ◌∙◌, ap, sym, subst, arith}
+use Rattle.std.proofs.Common.{ℕ, List, length, subst}
 use Rattle.std.proofs.lemmas.Result.{err_from_is_err_and}
-use Rattle.hl_media.specs.History.{Image, MachineState, content}
+use Rattle.hl_media.specs.History.{Image, content}
 use Rattle.hl_dir.specs.declared.entry.Entry.{Entry}
 use Rattle.hl_nodes.specs.declared.rule.Rule.{Rule}
-use Rattle.hl_survey.proofs.Stopping.{stops_then, stops_where}
-use Rattle.hl_survey.proofs.Unchanged.{held_before, reads_none, reads_then}
+use Rattle.hl_survey.proofs.Stopping.{stops_where}
 use Rattle.hl_hierarchy.specs.Naming.{numbers, IsOffSomewhere, NotesEach}
 use Rattle.hl_hierarchy.specs.Hierarchies.{BreaksDirectory, BreaksNaming, HoldsAt}
 use Rattle.hl_hierarchy.proofs.NamedNumbers.{are_of, at_found, below_more, entry_breaks, named_more}

@@ -1,6 +1,5 @@
-use Rattle.std.proofs.Common.{◌≡◌, ◌≢◌, ⊎_elim, ℕ, ◌<◌, ◌≤◌, length, refl, sym, subst, arith, below_more}
+use Rattle.std.proofs.Common.{◌≤◌, arith, below_more}
 use Rattle.std.specs.Prelude.{IsSome}
-use Rattle.std.proofs.lemmas.Bool.{cases_lt}
 use Rattle.hl_hierarchy.specs.Naming.{at_number}
 use Rattle.hl_hierarchy.specs.Climbing.{Climbs}
 use Rattle.hl_hierarchy.proofs.NamedNumbers.{below_count, dir_of}

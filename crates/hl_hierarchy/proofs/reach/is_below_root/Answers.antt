@@ -1,5 +1,5 @@
 use Rattle.std.proofs.Common.{◌≡◌, sym, ap, ◌∙◌, arith}
-use Rattle.std.specs.Prelude.{Some, None, is_some}
+use Rattle.std.specs.Prelude.{None, is_some}
 use Rattle.std.proofs.lemmas.List.{get_or_default}
 use Rattle.hl_hierarchy.specs.Naming.{at_number}
 use Rattle.hl_hierarchy.proofs.Climbs.{passes_on}
