@@ -1,0 +1,9 @@
+pub mod BlockBytes
+pub mod Decoded
+pub mod HeldEntries
+pub mod Noting
+pub mod Descents
+pub mod Climbs
+pub mod NamedNumbers
+pub mod Leading
+pub mod Kept

@@ -1,0 +1,5 @@
+pub mod Bytes
+pub mod Naming
+pub mod Climbing
+pub mod Hierarchies
+pub mod Answers
