@@ -7,7 +7,5 @@ mod checking;
 mod names;
 mod naming;
 mod reach;
-#[cfg(test)]
-mod tests;
 
 pub use checking::{HierarchyAnswer, check_hierarchy};
