@@ -1,0 +1,5 @@
+pub mod Looking
+pub mod Classes
+pub mod Reads
+pub mod Stopping
+pub mod RulesKept

@@ -1,0 +1,38 @@
+-- Why a survey stops.
+use Rattle.std.specs.Prelude.{◌≡◌, ℕ, List, slice_index, Option}
+use Rattle.hl_media.specs.History.{History, Image}
+use Rattle.hl_media.specs.Moments.{Now}
+use Rattle.hl_media.specs.Causes.{Rose}
+use Rattle.hl_addr.specs.Layout.{Layout}
+use Rattle.hl_super.specs.declared.record.Record.{Record}
+use Rattle.hl_summary.specs.declared.parts.Summary.{Summary}
+use Rattle.hl_tables.specs.Values.{TableValues}
+use Rattle.hl_inode.specs.declared.inode.Inode.{Inode}
+use Rattle.hl_nodes.specs.declared.rule.Rule.{Rule}
+use Rattle.hl_nodes.specs.Breaks.{Breaks}
+use Rattle.hl_nodes.specs.Directories.{IsInodeIn, IsInUse}
+use Rattle.hl_survey.specs.declared.found.SurveyStop.{SurveyStop}
+use Rattle.hl_survey.specs.declared.found.SurveyStop.TheVariants as stop
+
+-- the rule is broken at the block, whatever parts the chain has
+abbrev pub IsBroken : Layout → Record → TableValues → Image → Rule → ℕ → Type 0
+IsBroken g rec t image rule block = (parts : List Summary) → Breaks g image rec parts t rule block
+
+-- the rule is broken at the block, where the number is in use and its inode's block is this one
+abbrev pub BreaksInode : ℕ → ℕ → Image → Rule → ℕ → Type 0
+BreaksInode ino own image rule block = (g : Layout) (t : TableValues) (rec : Record) → IsInUse g t ino
+    → slice_index t.inodes ino ≡ own → IsBroken g rec t image rule block
+
+-- the rule is broken at the block, where the inode of some number stands at its address
+abbrev pub BreaksPointers : Layout → TableValues → ℕ → Inode → Image → Rule → ℕ → Type 0
+BreaksPointers g t own v image rule block = (rec : Record) (ino : ℕ) → IsInodeIn g image t ino v own
+    → IsBroken g rec t image rule block
+
+module _ {M : Type 0} where
+  -- Damage is told where what reads gave has it, and a fault where the count rose; memory may be wanting at any time.
+  abbrev pub Stops : (M → Option History) → (M → ℕ) → (Image → Rule → ℕ → Type 0) → M → M
+      → SurveyStop → Type 0
+  Stops history faults Told before now (stop.Damaged block rule) =
+      Now (history before) (λ s. Told s.content rule block)
+  Stops history faults Told before now stop.DiskFault = Rose (faults before) (faults now)
+  Stops history faults Told before now stop.Memory = Unit {0}
