@@ -1,0 +1,12 @@
+pub mod Pairs
+pub mod Namings
+pub mod Named
+pub mod Repeats
+pub mod Shared
+pub mod LiveAddresses
+pub mod UsedSegments
+pub mod Strays
+pub mod LiveNumbers
+pub mod CleanSegments
+pub mod FoundCharges
+pub mod FoundUses
