@@ -3,6 +3,7 @@ use Rattle.std.proofs.Common.{◌≡◌, ◌≢◌, true≢false, ⊎_elim, ℕ,
 use Rattle.std.specs.Prelude.{◌==◌, Contains, slice_index, Option, Some, None}
 use Rattle.std.specs.List.{slice_index_or}
 use Rattle.std.proofs.lemmas.Bool.{eq-eqb, ne_eqb}
+use Rattle.std.proofs.lemmas.List.Elements.{Contains-append_left, Contains-append_right}
 use Rattle.hl_media.specs.History.{Image}
 use Rattle.hl_addr.specs.Layout.{IsWithinLimits, Layout}
 use Rattle.hl_super.specs.declared.record.Record.{Record}
@@ -20,7 +21,7 @@ use Rattle.hl_nodes.proofs.PointerLemmas.{in_log-some}
 use Rattle.hl_survey.specs.declared.found.FoundInode.{FoundInode}
 use Rattle.hl_survey.specs.Surveys.{AreSurveyed, IsFound, IsFoundInode}
 use Rattle.hl_census.specs.Naming.{AreNamed, Naming, is_address, named_addresses}
-use Rattle.hl_census.proofs.Namings.{behind, collected, collected_from, collected_to, each_kept, far_block, found_namings, in_left, in_right, inode_namings, naming, namings, namings_are, namings_once, numbered, numbered_from, numbered_to}
+use Rattle.hl_census.proofs.Namings.{behind, collected, collected_from, collected_to, each_kept, far_block, found_namings, inode_namings, naming, namings, namings_are, namings_once, numbered, numbered_from, numbered_to}
 
 pub some_address : (a : ℕ) → is_address a ≡ true → a ≢ 4294967295
 some_address a e none = true≢false (sym e ∙ ap not (eq-eqb a 4294967295 none))
@@ -92,12 +93,12 @@ module _ (g : Layout) (image : Image) (rec : Record) (t : TableValues) (limits :
   in_found ino b a (Some f) is h = in_inode ino f is b a (subst (λ (v : Inode). PointsAt image (own ino) v b a) (same_inode ino f is h.inode h.there) h.points)
 
   named_from : (x : LiveBlock) (a : ℕ) → IsNamedAt g image rec t x a → Contains (namings rec.tables found) (naming x a)
-  named_from (Table i) a is = in_left (numbered Table each_kept rec.tables) (collected found_namings found) (naming (Table i) a)
+  named_from (Table i) a is = Contains-append_left (numbered Table each_kept rec.tables) (collected found_namings found) (naming (Table i) a)
       (subst (λ (k : ℕ). Contains (numbered Table each_kept rec.tables) (naming (Table i) k)) is.1 (numbered_from Table each_kept rec.tables i is.0 refl))
   named_from (OfNode ino b) a is =
       let high = is.high in
       let count = are.count in
-      in_right (numbered Table each_kept rec.tables) (collected found_namings found) (naming (OfNode ino b) a)
+      Contains-append_right (numbered Table each_kept rec.tables) (collected found_namings found) (naming (OfNode ino b) a)
       (collected_from found_namings found ino (naming (OfNode ino b) a) (omega arith) (in_found ino b a (slice_index_or found ino None) (are.each ino is.high) is))
 
   -- these are all addresses that are named

@@ -3,6 +3,7 @@ use Rattle.std.proofs.Common.{◌≡◌, ◌≢◌, ⊎_elim, ℕ, zero, suc, �
 use Rattle.std.specs.Prelude.{AllPairs, Contains, filter, slice_index, Option, Some, None}
 use Rattle.std.specs.List.{flat_map, slice_index_or}
 use Rattle.std.proofs.lemmas.List.{map-append}
+use Rattle.std.proofs.lemmas.List.Elements.{Contains-append_left, Contains-append_right}
 use Rattle.hl_nodes.specs.Live.{LiveBlock, NodeBlock}
 use Rattle.hl_nodes.specs.Live.LiveBlock.{OfNode, Table}
 use Rattle.hl_nodes.specs.Live.NodeBlock.{Content, Own, Pointers}
@@ -97,18 +98,10 @@ collected_to f (x ∷ xs) n c = ⊎_elim
     (λ there. (let r = collected_to (λ i. f (suc i)) xs n there in let lt = r.1 in (suc r.0, omega arith, r.2)))
     (in_append (f 0 x) (collected (λ i. f (suc i)) xs) n c)
 
-pub in_left : (xs ys : List Naming) (n : Naming) → Contains xs n → Contains (xs ++ ys) n
-in_left [] ys n c = absurd (let lt = c.1 in omega arith)
-in_left (x ∷ xs) ys n c = ⊎_elim (λ e. subst (Contains (x ∷ (xs ++ ys))) e (head_in x (xs ++ ys))) (λ more. tail_in x n (xs ++ ys) (in_left xs ys n more)) (first_or_later x n xs c)
-
-pub in_right : (xs ys : List Naming) (n : Naming) → Contains ys n → Contains (xs ++ ys) n
-in_right [] ys n c = c
-in_right (x ∷ xs) ys n c = tail_in x n (xs ++ ys) (in_right xs ys n c)
-
 pub collected_from : (f : ℕ → Option FoundInode → List Naming) (xs : List (Option FoundInode)) (i : ℕ) (n : Naming) → i < length xs → Contains (f i (slice_index_or xs i None)) n → Contains (collected f xs) n
 collected_from f [] i n lt c = absurd (omega arith)
-collected_from f (x ∷ xs) zero n lt c = in_left (f 0 x) (collected (λ i. f (suc i)) xs) n c
-collected_from f (x ∷ xs) (suc i) n lt c = in_right (f 0 x) (collected (λ i. f (suc i)) xs) n (collected_from (λ i. f (suc i)) xs i n (omega arith) c)
+collected_from f (x ∷ xs) zero n lt c = Contains-append_left (f 0 x) (collected (λ i. f (suc i)) xs) n c
+collected_from f (x ∷ xs) (suc i) n lt c = Contains-append_right (f 0 x) (collected (λ i. f (suc i)) xs) n (collected_from (λ i. f (suc i)) xs i n (omega arith) c)
 
 pub collected_once : (f : ℕ → Option FoundInode → List Naming) → ((i : ℕ) (x : Option FoundInode) → AllPairs Apart (f i x))
     → ((i j : ℕ) (x y : Option FoundInode) (m n : Naming) → i < j → Contains (f i x) m → Contains (f j y) n → Apart m n)

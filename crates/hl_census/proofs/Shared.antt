@@ -1,5 +1,5 @@
 -- An address that is named twice, and the blocks that share it.
-use Rattle.std.proofs.Common.{◌≡◌, ◌≢◌, inl, inr, ⊎_elim, ℕ, ◌+◌, ◌≤◌, List, [], ◌∷◌, map, sym, ◌∙◌, ap, subst, arith}
+use Rattle.std.proofs.Common.{◌≡◌, ◌≢◌, inl, inr, ⊎_elim, ℕ, ◌+◌, ◌≤◌, List, [], ◌∷◌, map, refl, sym, ◌∙◌, ap, subst, arith}
 use Rattle.std.specs.Prelude.{AllPairs, Contains, Option, Some, None}
 use Rattle.std.proofs.lemmas.Bool.{cases_eq}
 use Rattle.hl_media.specs.History.{Image}
@@ -94,7 +94,7 @@ module _ (g : Layout) (image : Image) (rec : Record) (parts : List Summary) (t :
   shared_told None few = λ address broken.
       let x = broken.0 in
       let y = broken.1 in
-      let two = two_in named.namings address (naming x address) (naming y address) ((named.each (naming x address)).1 broken.3) ((named.each (naming y address)).1 broken.4) broken.2 (λ i. address) (λ i. address) in
+      let two = two_in named.namings address (naming x address) (naming y address) ((named.each (naming x address)).1 broken.3) ((named.each (naming y address)).1 broken.4) broken.2 refl refl in
       let once = subst (λ (l : List ℕ). times address l ≤ 1) named.are (few address) in
       omega arith
   shared_told (Some a) two =
