@@ -126,7 +126,7 @@ pub once_of : (ns : List Naming) → AllPairs Apart ns → ((p q : Naming) → C
 once_of [] once apart = tt
 once_of (n ∷ ns) once apart = (
   λ c. (
-  let at = found_in ns n.address c in
-  apart n at.0 (head_in n ns) (tail_in n at.0 ns at.1) (pairs_head Apart n at.0 ns once at.1) (sym at.2)),
+      let at = found_in ns n.address c in
+      apart n at.0 (head_in n ns) (tail_in n at.0 ns at.1) (pairs_head Apart n at.0 ns once at.1) (sym at.2)),
   once_of ns (pairs_tail Apart n ns once) (λ p q l r. apart p q (tail_in n p ns l) (tail_in n q ns r)),
 )
