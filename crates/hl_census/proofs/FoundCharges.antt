@@ -72,30 +72,30 @@ module _ (g : Layout) (found : List (Option FoundInode)) (nodes : Nodes) (each :
   all_charged past = up_to (length found) (omega arith) nodes (λ ino lt. refl) past ∙ ap (sum_by (found_charge g)) (take_all (length found) found (omega arith))
 
 -- TESTS THAT AGREE at each place
-same_count : (p : ℕ → Bool) (q : Block → Bool) (as : List ℕ) (bs : List Block) → length bs ≡ length as → ((i : ℕ) → i < length as → p (slice_index as i) ≡ q (get_or bs i Hole)) → count_by p as ≡ count_by q bs
+same_count : (p : ℕ → Bool) (q : Block → Bool) (row : List ℕ) (bs : List Block) → length bs ≡ length row → ((i : ℕ) → i < length row → p (slice_index row i) ≡ q (get_or bs i Hole)) → count_by p row ≡ count_by q bs
 same_count p q [] [] size each = refl
 same_count p q [] (b ∷ bs) size each = absurd (omega arith)
-same_count p q (a ∷ as) [] size each = absurd (omega arith)
-same_count p q (a ∷ as) (b ∷ bs) size each =
-    sum_by-cons (λ (x : ℕ). cond (p x) 1 0) a as
-    ∙ ap (λ (t : Bool). cond t 1 0 + count_by p as) (each 0 (omega arith))
-    ∙ ap (λ (n : ℕ). cond (q b) 1 0 + n) (same_count p q as bs (omega arith) (λ i lt. each (suc i) (omega arith)))
+same_count p q (a ∷ row) [] size each = absurd (omega arith)
+same_count p q (a ∷ row) (b ∷ bs) size each =
+    sum_by-cons (λ (x : ℕ). cond (p x) 1 0) a row
+    ∙ ap (λ (t : Bool). cond t 1 0 + count_by p row) (each 0 (omega arith))
+    ∙ ap (λ (n : ℕ). cond (q b) 1 0 + n) (same_count p q row bs (omega arith) (λ i lt. each (suc i) (omega arith)))
     ∙ sym (sum_by-cons (λ (x : Block). cond (q x) 1 0) b bs)
 
-same_any : (p : ℕ → Bool) (q : Block → Bool) (as : List ℕ) (bs : List Block) → length bs ≡ length as → ((i : ℕ) → i < length as → p (slice_index as i) ≡ q (get_or bs i Hole)) → list_any p as ≡ list_any q bs
+same_any : (p : ℕ → Bool) (q : Block → Bool) (row : List ℕ) (bs : List Block) → length bs ≡ length row → ((i : ℕ) → i < length row → p (slice_index row i) ≡ q (get_or bs i Hole)) → list_any p row ≡ list_any q bs
 same_any p q [] [] size each = refl
 same_any p q [] (b ∷ bs) size each = absurd (omega arith)
-same_any p q (a ∷ as) [] size each = absurd (omega arith)
-same_any p q (a ∷ as) (b ∷ bs) size each =
-    ap (λ (t : Bool). t || list_any p as) (each 0 (omega arith))
-    ∙ ap (λ (t : Bool). q b || t) (same_any p q as bs (omega arith) (λ i lt. each (suc i) (omega arith)))
+same_any p q (a ∷ row) [] size each = absurd (omega arith)
+same_any p q (a ∷ row) (b ∷ bs) size each =
+    ap (λ (t : Bool). t || list_any p row) (each 0 (omega arith))
+    ∙ ap (λ (t : Bool). q b || t) (same_any p q row bs (omega arith) (λ i lt. each (suc i) (omega arith)))
 
-same_any_from : (p : ℕ → Bool) (q : Block → Bool) (k : ℕ) (as : List ℕ) (bs : List Block) → length bs ≡ length as → ((i : ℕ) → i < length as → p (slice_index as i) ≡ q (get_or bs i Hole)) → list_any p (drop k as) ≡ list_any q (drop k bs)
-same_any_from p q zero as bs size each = same_any p q as bs size each
+same_any_from : (p : ℕ → Bool) (q : Block → Bool) (k : ℕ) (row : List ℕ) (bs : List Block) → length bs ≡ length row → ((i : ℕ) → i < length row → p (slice_index row i) ≡ q (get_or bs i Hole)) → list_any p (drop k row) ≡ list_any q (drop k bs)
+same_any_from p q zero row bs size each = same_any p q row bs size each
 same_any_from p q (suc k) [] [] size each = refl
 same_any_from p q (suc k) [] (b ∷ bs) size each = absurd (omega arith)
-same_any_from p q (suc k) (a ∷ as) [] size each = absurd (omega arith)
-same_any_from p q (suc k) (a ∷ as) (b ∷ bs) size each = same_any_from p q k as bs (omega arith) (λ i lt. each (suc i) (omega arith))
+same_any_from p q (suc k) (a ∷ row) [] size each = absurd (omega arith)
+same_any_from p q (suc k) (a ∷ row) (b ∷ bs) size each = same_any_from p q k row bs (omega arith) (λ i lt. each (suc i) (omega arith))
 
 module _ (g : Layout) (limits : IsWithinLimits g) (image : Image) (t : TableValues) where
   -- A POINTER is in the log where its block is here, and Nothing where it is a hole
@@ -118,7 +118,7 @@ module _ (g : Layout) (limits : IsWithinLimits g) (image : Image) (t : TableValu
         ∙ ap (λ (n : ℕ). parts_charge (list_any (λ (b : Block). not (is_hole b)) (drop 12 blocks)) n)
         (same_count (is_logged g.k g.log) is_here pointers blocks size (λ i lt. here_is kind (slice_index pointers i) (get_or blocks i Hole) (stand i lt)))
 
-  -- AN INODE that was found is charged as its node
+  -- AN INODE that was found is charged row its node
   inode_charged : (ino : ℕ) (f : FoundInode) (node : FlatNode) → IsFoundInode g image t ino f → IsNodeAt g t.slots image ino (slice_index t.inodes ino) node → pointers_charge g f.pointers.items ≡ blocks_charge node.content.blocks
   inode_charged ino f node is at = pointers_charged f.inode.kind f.pointers.items node.content.blocks (node_is.count ∙ sym is.pointers.count)
       (λ i lt.
@@ -162,7 +162,7 @@ module _ (g : Layout) (limits : IsWithinLimits g) (image : Image) (t : TableValu
     few : sum_by (found_charge g) found < 2 ^ 32 - 1
     few =
         let most : sum_by (found_charge g) found ≤ length found * 1038 = sum_by-le (found_charge g) 1038 found (All-from_get_or (λ (x : Option FoundInode). found_charge g x ≤ 1038) found None (λ ino lt.
-            (let count = are.count in charged_most ino (get_or found ino None) (are.each ino (omega arith))))) in
+        (let count = are.count in charged_most ino (get_or found ino None) (are.each ino (omega arith))))) in
         let count = are.count in
         let numbers = limits.inode_count.1 in
         omega arith

@@ -36,19 +36,19 @@ module _ (k : ℕ) where
       by true = length-set live (a / k - 1) (min (slice_index live (a / k - 1) + 1) (2 ^ 32 - 1))
       by false = refl
 
-  pub length-counted : (live as : List ℕ) → length (fold (added k) live as) ≡ length live
+  pub length-counted : (live row : List ℕ) → length (fold (added k) live row) ≡ length live
   length-counted live [] = refl
-  length-counted live (a ∷ as) = length-counted (added k live a) as ∙ length-added live a
+  length-counted live (a ∷ row) = length-counted (added k live a) row ∙ length-added live a
 
   -- addresses elsewhere count for nothing
-  pub counted-kept : (n : ℕ) (live as : List ℕ) → length live ≡ n → fold (added k) live as ≡ fold (added k) live (filter (is_logged k n) as)
+  pub counted-kept : (n : ℕ) (live row : List ℕ) → length live ≡ n → fold (added k) live row ≡ fold (added k) live (filter (is_logged k n) row)
   counted-kept n live [] size = refl
-  counted-kept n live (a ∷ as) size = by (is_logged k n a) refl (counted-kept n (added k live a) as (length-added live a ∙ size))
+  counted-kept n live (a ∷ row) size = by (is_logged k n a) refl (counted-kept n (added k live a) row (length-added live a ∙ size))
     where
-      by : (b : Bool) → is_logged k n a ≡ b → fold (added k) (added k live a) as ≡ fold (added k) (added k live a) (filter (is_logged k n) as)
-          → fold (added k) (added k live a) as ≡ fold (added k) live (if b then a ∷ filter (is_logged k n) as else filter (is_logged k n) as)
+      by : (b : Bool) → is_logged k n a ≡ b → fold (added k) (added k live a) row ≡ fold (added k) (added k live a) (filter (is_logged k n) row)
+          → fold (added k) (added k live a) row ≡ fold (added k) live (if b then a ∷ filter (is_logged k n) row else filter (is_logged k n) row)
       by true e rest = rest
-      by false e rest = rest ∙ ap (λ (l : List ℕ). fold (added k) l (filter (is_logged k n) as)) (added-elsewhere live a (ap (λ (m : ℕ). is_logged k m a) size ∙ e))
+      by false e rest = rest ∙ ap (λ (l : List ℕ). fold (added k) l (filter (is_logged k n) row)) (added-elsewhere live a (ap (λ (m : ℕ). is_logged k m a) size ∙ e))
 
   module _ (segment : ℕ) (low : 1 ≤ segment) where
     abbrev number : List ℕ → ℕ
@@ -76,28 +76,28 @@ module _ (k : ℕ) where
         by false e = refl
 
     -- what is counted there stays counted
-    stays : (live as : List ℕ) → segment ≤ length live → 0 < number live → 0 < number (fold (added k) live as)
+    stays : (live row : List ℕ) → segment ≤ length live → 0 < number live → 0 < number (fold (added k) live row)
     stays live [] high some = some
-    stays live (a ∷ as) high some =
+    stays live (a ∷ row) high some =
         let size = length-added live a in
-        stays (added k live a) as (omega arith) (elim (cases_eq (a / k) segment) [
+        stays (added k live a) row (omega arith) (elim (cases_eq (a / k) segment) [
           | inl e ↦ more_here live a high e
           | inr ne ↦ (let same = less_elsewhere live a ne in omega arith)
         ])
 
-    pub counted_some : (live as : List ℕ) → segment ≤ length live → (a : ℕ) → Contains as a → a / k ≡ segment → 0 < number (fold (added k) live as)
+    pub counted_some : (live row : List ℕ) → segment ≤ length live → (a : ℕ) → Contains row a → a / k ≡ segment → 0 < number (fold (added k) live row)
     counted_some live [] high a c e = absurd (let lt = c.1 in omega arith)
-    counted_some live (b ∷ as) high a c e =
+    counted_some live (b ∷ row) high a c e =
         let size = length-added live b in
-        elim (first_or_later b a as c) [
-          | inl same ↦ stays (added k live b) as (omega arith) (more_here live b high (ap (λ (x : ℕ). x / k) same ∙ e))
-          | inr later ↦ counted_some (added k live b) as (omega arith) a later e
+        elim (first_or_later b a row c) [
+          | inl same ↦ stays (added k live b) row (omega arith) (more_here live b high (ap (λ (x : ℕ). x / k) same ∙ e))
+          | inr later ↦ counted_some (added k live b) row (omega arith) a later e
         ]
 
-    pub counted_none : (live as : List ℕ) → ((a : ℕ) → Contains as a → a / k ≢ segment) → number (fold (added k) live as) ≡ number live
+    pub counted_none : (live row : List ℕ) → ((a : ℕ) → Contains row a → a / k ≢ segment) → number (fold (added k) live row) ≡ number live
     counted_none live [] none = refl
-    counted_none live (a ∷ as) none =
-        counted_none (added k live a) as (λ b c. none b (tail_in a b as c)) ∙ less_elsewhere live a (none a (head_in a as))
+    counted_none live (a ∷ row) none =
+        counted_none (added k live a) row (λ b c. none b (tail_in a b row c)) ∙ less_elsewhere live a (none a (head_in a row))
 
 -- THE LIVE NUMBERS OF AN IMAGE
 module _ (g : Layout) (limits : IsWithinLimits g) (image : Image) (rec : Record) (t : TableValues) where

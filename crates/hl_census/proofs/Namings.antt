@@ -25,57 +25,57 @@ Apart one other = one.block ≢ other.block
 -- ADDRESSES IN A ROW, of which some are kept
 abbrev pub numbered : (ℕ → LiveBlock) → (ℕ → Bool) → List ℕ → List Naming
 numbered block keep [] = []
-numbered block keep (a ∷ as) = cond (keep a) (naming (block 0) a ∷ numbered (λ i. block (suc i)) keep as) (numbered (λ i. block (suc i)) keep as)
+numbered block keep (a ∷ row) = cond (keep a) (naming (block 0) a ∷ numbered (λ i. block (suc i)) keep row) (numbered (λ i. block (suc i)) keep row)
 
-pub numbered_are : (block : ℕ → LiveBlock) (keep : ℕ → Bool) (as : List ℕ) → map address_of (numbered block keep as) ≡ filter keep as
+pub numbered_are : (block : ℕ → LiveBlock) (keep : ℕ → Bool) (row : List ℕ) → map address_of (numbered block keep row) ≡ filter keep row
 numbered_are block keep [] = refl
-numbered_are block keep (a ∷ as) = by (numbered_are (λ i. block (suc i)) keep as) (keep a)
+numbered_are block keep (a ∷ row) = by (numbered_are (λ i. block (suc i)) keep row) (keep a)
   where
-    by : map address_of (numbered (λ i. block (suc i)) keep as) ≡ filter keep as → (b : Bool)
-        → map address_of (cond b (naming (block 0) a ∷ numbered (λ i. block (suc i)) keep as) (numbered (λ i. block (suc i)) keep as)) ≡ cond b (a ∷ filter keep as) (filter keep as)
+    by : map address_of (numbered (λ i. block (suc i)) keep row) ≡ filter keep row → (b : Bool)
+        → map address_of (cond b (naming (block 0) a ∷ numbered (λ i. block (suc i)) keep row) (numbered (λ i. block (suc i)) keep row)) ≡ cond b (a ∷ filter keep row) (filter keep row)
     by rest true = ap (λ (xs : List ℕ). a ∷ xs) rest
     by rest false = rest
 
 -- one of them
 abbrev pub IsNumbered : (ℕ → LiveBlock) → (ℕ → Bool) → List ℕ → Naming → Type 0
-IsNumbered block keep as n = (i : ℕ) × (i < length as) × (n ≡ naming (block i) (slice_index as i)) × (keep (slice_index as i) ≡ true)
+IsNumbered block keep row n = (i : ℕ) × (i < length row) × (n ≡ naming (block i) (slice_index row i)) × (keep (slice_index row i) ≡ true)
 
-pub numbered_to : (block : ℕ → LiveBlock) (keep : ℕ → Bool) (as : List ℕ) (n : Naming) → Contains (numbered block keep as) n → IsNumbered block keep as n
+pub numbered_to : (block : ℕ → LiveBlock) (keep : ℕ → Bool) (row : List ℕ) (n : Naming) → Contains (numbered block keep row) n → IsNumbered block keep row n
 numbered_to block keep [] n c = absurd (let lt = c.1 in omega arith)
-numbered_to block keep (a ∷ as) n c = by (numbered_to (λ i. block (suc i)) keep as n) (keep a) refl c
+numbered_to block keep (a ∷ row) n c = by (numbered_to (λ i. block (suc i)) keep row n) (keep a) refl c
   where
-    later : IsNumbered (λ i. block (suc i)) keep as n → IsNumbered block keep (a ∷ as) n
+    later : IsNumbered (λ i. block (suc i)) keep row n → IsNumbered block keep (a ∷ row) n
     later is = (let lt = is.1 in (suc is.0, omega arith, is.2, is.3))
 
-    by : (Contains (numbered (λ i. block (suc i)) keep as) n → IsNumbered (λ i. block (suc i)) keep as n) → (b : Bool) → keep a ≡ b
-        → Contains (cond b (naming (block 0) a ∷ numbered (λ i. block (suc i)) keep as) (numbered (λ i. block (suc i)) keep as)) n → IsNumbered block keep (a ∷ as) n
-    by rest true e c = ⊎_elim (λ same. (0, omega arith, sym same, e)) (λ more. later (rest more)) (first_or_later (naming (block 0) a) n (numbered (λ i. block (suc i)) keep as) c)
+    by : (Contains (numbered (λ i. block (suc i)) keep row) n → IsNumbered (λ i. block (suc i)) keep row n) → (b : Bool) → keep a ≡ b
+        → Contains (cond b (naming (block 0) a ∷ numbered (λ i. block (suc i)) keep row) (numbered (λ i. block (suc i)) keep row)) n → IsNumbered block keep (a ∷ row) n
+    by rest true e c = ⊎_elim (λ same. (0, omega arith, sym same, e)) (λ more. later (rest more)) (first_or_later (naming (block 0) a) n (numbered (λ i. block (suc i)) keep row) c)
     by rest false e c = later (rest c)
 
-pub numbered_from : (block : ℕ → LiveBlock) (keep : ℕ → Bool) (as : List ℕ) (i : ℕ) → i < length as → keep (slice_index as i) ≡ true → Contains (numbered block keep as) (naming (block i) (slice_index as i))
+pub numbered_from : (block : ℕ → LiveBlock) (keep : ℕ → Bool) (row : List ℕ) (i : ℕ) → i < length row → keep (slice_index row i) ≡ true → Contains (numbered block keep row) (naming (block i) (slice_index row i))
 numbered_from block keep [] i lt e = absurd (omega arith)
-numbered_from block keep (a ∷ as) zero lt e = subst
-    (λ (b : Bool). Contains (cond b (naming (block 0) a ∷ numbered (λ i. block (suc i)) keep as) (numbered (λ i. block (suc i)) keep as)) (naming (block 0) a)) (sym e)
-    (head_in (naming (block 0) a) (numbered (λ i. block (suc i)) keep as))
-numbered_from block keep (a ∷ as) (suc i) lt e = by (numbered_from (λ i. block (suc i)) keep as i (omega arith) e) (keep a)
+numbered_from block keep (a ∷ row) zero lt e = subst
+    (λ (b : Bool). Contains (cond b (naming (block 0) a ∷ numbered (λ i. block (suc i)) keep row) (numbered (λ i. block (suc i)) keep row)) (naming (block 0) a)) (sym e)
+    (head_in (naming (block 0) a) (numbered (λ i. block (suc i)) keep row))
+numbered_from block keep (a ∷ row) (suc i) lt e = by (numbered_from (λ i. block (suc i)) keep row i (omega arith) e) (keep a)
   where
-    by : Contains (numbered (λ i. block (suc i)) keep as) (naming (block (suc i)) (slice_index as i)) → (b : Bool)
-        → Contains (cond b (naming (block 0) a ∷ numbered (λ i. block (suc i)) keep as) (numbered (λ i. block (suc i)) keep as)) (naming (block (suc i)) (slice_index as i))
-    by there true = tail_in (naming (block 0) a) (naming (block (suc i)) (slice_index as i)) (numbered (λ i. block (suc i)) keep as) there
+    by : Contains (numbered (λ i. block (suc i)) keep row) (naming (block (suc i)) (slice_index row i)) → (b : Bool)
+        → Contains (cond b (naming (block 0) a ∷ numbered (λ i. block (suc i)) keep row) (numbered (λ i. block (suc i)) keep row)) (naming (block (suc i)) (slice_index row i))
+    by there true = tail_in (naming (block 0) a) (naming (block (suc i)) (slice_index row i)) (numbered (λ i. block (suc i)) keep row) there
     by there false = there
 
-pub numbered_once : (block : ℕ → LiveBlock) (keep : ℕ → Bool) → ((i j : ℕ) → block i ≡ block j → i ≡ j) → (as : List ℕ) → AllPairs Apart (numbered block keep as)
+pub numbered_once : (block : ℕ → LiveBlock) (keep : ℕ → Bool) → ((i j : ℕ) → block i ≡ block j → i ≡ j) → (row : List ℕ) → AllPairs Apart (numbered block keep row)
 numbered_once block keep one [] = pairs_nil Apart
-numbered_once block keep one (a ∷ as) = by (numbered_once (λ i. block (suc i)) keep (λ i j e. (let s : suc i ≡ suc j = one (suc i) (suc j) e in omega arith)) as) (keep a)
+numbered_once block keep one (a ∷ row) = by (numbered_once (λ i. block (suc i)) keep (λ i j e. (let s : suc i ≡ suc j = one (suc i) (suc j) e in omega arith)) row) (keep a)
   where
-    first : (n : Naming) → Contains (numbered (λ i. block (suc i)) keep as) n → Apart (naming (block 0) a) n
+    first : (n : Naming) → Contains (numbered (λ i. block (suc i)) keep row) n → Apart (naming (block 0) a) n
     first n c e =
-        let is = numbered_to (λ i. block (suc i)) keep as n c in
+        let is = numbered_to (λ i. block (suc i)) keep row n c in
         let s : 0 ≡ suc is.0 = one 0 (suc is.0) (e ∙ ap (λ (m : Naming). m.block) is.2) in
         omega arith
 
-    by : AllPairs Apart (numbered (λ i. block (suc i)) keep as) → (b : Bool) → AllPairs Apart (cond b (naming (block 0) a ∷ numbered (λ i. block (suc i)) keep as) (numbered (λ i. block (suc i)) keep as))
-    by more true = pairs_cons Apart (naming (block 0) a) (numbered (λ i. block (suc i)) keep as) first more
+    by : AllPairs Apart (numbered (λ i. block (suc i)) keep row) → (b : Bool) → AllPairs Apart (cond b (naming (block 0) a ∷ numbered (λ i. block (suc i)) keep row) (numbered (λ i. block (suc i)) keep row))
+    by more true = pairs_cons Apart (naming (block 0) a) (numbered (λ i. block (suc i)) keep row) first more
     by more false = more
 
 -- WHAT IS NAMED NUMBER BY NUMBER
@@ -172,18 +172,18 @@ found_apart i j x y m n lt l r e =
 abbrev pub each_kept : ℕ → Bool
 each_kept a = true
 
-all_kept : (as : List ℕ) → filter each_kept as ≡ as
+all_kept : (row : List ℕ) → filter each_kept row ≡ row
 all_kept [] = refl
-all_kept (a ∷ as) = ap (λ (l : List ℕ). a ∷ l) (all_kept as)
+all_kept (a ∷ row) = ap (λ (l : List ℕ). a ∷ l) (all_kept row)
 
 abbrev pub namings : List ℕ → List (Option FoundInode) → List Naming
 namings tables found = numbered Table each_kept tables ++ collected found_namings found
 
 pub namings_are : (tables : List ℕ) (found : List (Option FoundInode)) → named_addresses tables found ≡ map address_of (namings tables found)
 namings_are tables found = sym (
-  map-append address_of (numbered Table each_kept tables) (collected found_namings found)
-  ∙ ap (λ (l : List ℕ). l ++ map address_of (collected found_namings found)) (numbered_are Table each_kept tables ∙ all_kept tables)
-  ∙ ap (λ (l : List ℕ). tables ++ l) (collected_are found_namings found_addresses found_are found))
+    map-append address_of (numbered Table each_kept tables) (collected found_namings found)
+    ∙ ap (λ (l : List ℕ). l ++ map address_of (collected found_namings found)) (numbered_are Table each_kept tables ∙ all_kept tables)
+    ∙ ap (λ (l : List ℕ). tables ++ l) (collected_are found_namings found_addresses found_are found))
 
 table_one : (i j : ℕ) → Table i ≡ Table j → i ≡ j
 table_one i j e = cc
