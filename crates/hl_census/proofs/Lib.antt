@@ -1,4 +1,6 @@
 pub mod Pairs
+pub mod Pushing
+pub mod Flags
 pub mod Namings
 pub mod Named
 pub mod Repeats
