@@ -49,14 +49,14 @@ none_charged = ap (sum_by entry_charge) (no_items (entries (empty {X = FlatNode}
 reckoned : (whole before own now gone sum more : ℕ) → whole + gone ≡ before + now → gone ≡ 0 → now ≡ own → before ≡ sum → more ≡ sum + own → whole ≡ more
 reckoned whole before own now gone sum more step none is so_far next = omega arith
 
-module _ (g : Layout) (found : List (Option FoundInode)) (nodes : Nodes) (each : (ino : ℕ) → ino < length found → found_charge g (slice_index_or found ino None) ≡ charged (get nodes ino)) where
-  up_to : (n : ℕ) → n ≤ length found → (m : Nodes) → ((ino : ℕ) → ino < n → get m ino ≡ get nodes ino) → ((ino : ℕ) → n ≤ ino → get m ino ≡ None) → flat_charge m ≡ sum_by (found_charge g) (take n found)
+module _ (g : Layout) (found : List (Option FoundInode)) (nodes : Nodes) (each : (ino : ℕ) → ino < length found → found_charge g.k g.log (slice_index_or found ino None) ≡ charged (get nodes ino)) where
+  up_to : (n : ℕ) → n ≤ length found → (m : Nodes) → ((ino : ℕ) → ino < n → get m ino ≡ get nodes ino) → ((ino : ℕ) → n ≤ ino → get m ino ≡ None) → flat_charge m ≡ sum_by (found_charge g.k g.log) (take n found)
   up_to zero le m same past = ap flat_charge (same_nodes m empty (λ q. past q (omega arith) ∙ sym (get-empty nat_cmp q))) ∙ none_charged
   up_to (suc n) le m same past =
       let lt : n < length found = omega arith in
       let next : suc n ≡ n + 1 = omega arith in
-      reckoned (flat_charge m) (flat_charge (with_node m n None)) (found_charge g (slice_index_or found n None)) (charged (get m n)) (charged (get (with_node m n None) n))
-      (sum_by (found_charge g) (take n found)) (sum_by (found_charge g) (take (suc n) found))
+      reckoned (flat_charge m) (flat_charge (with_node m n None)) (found_charge g.k g.log (slice_index_or found n None)) (charged (get m n)) (charged (get (with_node m n None) n))
+      (sum_by (found_charge g.k g.log) (take n found)) (sum_by (found_charge g.k g.log) (take (suc n) found))
       (charge_replaced (with_node m n None) m n (λ q ne. sym (with_node-other m n None q ne)))
       (ap charged (with_node-same m n None))
       (ap charged (same n (omega arith)) ∙ sym (each n lt))
@@ -66,10 +66,10 @@ module _ (g : Layout) (found : List (Option FoundInode)) (nodes : Nodes) (each :
         | inl e ↦ ap (get (with_node m n None)) e ∙ with_node-same m n None
         | inr ne ↦ with_node-other m n None ino ne ∙ past ino (omega arith)
       ]))
-      (ap (λ (k : ℕ). sum_by (found_charge g) (take k found)) next ∙ sum_by_more (found_charge g) found n None lt)
+      (ap (λ (k : ℕ). sum_by (found_charge g.k g.log) (take k found)) next ∙ sum_by_more (found_charge g.k g.log) found n None lt)
 
-  all_charged : ((ino : ℕ) → length found ≤ ino → get nodes ino ≡ None) → flat_charge nodes ≡ sum_by (found_charge g) found
-  all_charged past = up_to (length found) (omega arith) nodes (λ ino lt. refl) past ∙ ap (sum_by (found_charge g)) (take_all (length found) found (omega arith))
+  all_charged : ((ino : ℕ) → length found ≤ ino → get nodes ino ≡ None) → flat_charge nodes ≡ sum_by (found_charge g.k g.log) found
+  all_charged past = up_to (length found) (omega arith) nodes (λ ino lt. refl) past ∙ ap (sum_by (found_charge g.k g.log)) (take_all (length found) found (omega arith))
 
 -- TESTS THAT AGREE at each place
 same_count : (p : ℕ → Bool) (q : Block → Bool) (row : List ℕ) (bs : List Block) → length bs ≡ length row → ((i : ℕ) → i < length row → p (slice_index row i) ≡ q (get_or bs i Hole)) → count_by p row ≡ count_by q bs
@@ -111,7 +111,7 @@ module _ (g : Layout) (limits : IsWithinLimits g) (image : Image) (t : TableValu
 
   module _ (kind : Kind) (pointers : List ℕ) (blocks : List Block) (size : length blocks ≡ length pointers)
       (stand : (i : ℕ) → i < length pointers → StandsFor g t.slots image kind (slice_index pointers i) (get_or blocks i Hole)) where
-    pointers_charged : pointers_charge g pointers ≡ blocks_charge blocks
+    pointers_charged : pointers_charge g.k g.log pointers ≡ blocks_charge blocks
     pointers_charged =
         ap (λ (b : Bool). parts_charge b (count_by (is_logged g.k g.log) pointers))
         (same_any_from is_address (λ (b : Block). not (is_hole b)) 12 pointers blocks size (λ i lt. hole_is kind (slice_index pointers i) (get_or blocks i Hole) (stand i lt)))
@@ -119,7 +119,7 @@ module _ (g : Layout) (limits : IsWithinLimits g) (image : Image) (t : TableValu
         (same_count (is_logged g.k g.log) is_here pointers blocks size (λ i lt. here_is kind (slice_index pointers i) (get_or blocks i Hole) (stand i lt)))
 
   -- AN INODE that was found is charged row its node
-  inode_charged : (ino : ℕ) (f : FoundInode) (node : FlatNode) → IsFoundInode g image t ino f → IsNodeAt g t.slots image ino (slice_index t.inodes ino) node → pointers_charge g f.pointers.items ≡ blocks_charge node.content.blocks
+  inode_charged : (ino : ℕ) (f : FoundInode) (node : FlatNode) → IsFoundInode g image t ino f → IsNodeAt g t.slots image ino (slice_index t.inodes ino) node → pointers_charge g.k g.log f.pointers.items ≡ blocks_charge node.content.blocks
   inode_charged ino f node is at = pointers_charged f.inode.kind f.pointers.items node.content.blocks (node_is.count ∙ sym is.pointers.count)
       (λ i lt.
       let size = is.pointers.count in
@@ -132,7 +132,7 @@ module _ (g : Layout) (limits : IsWithinLimits g) (image : Image) (t : TableValu
       node_is : IsNodeOf g t.slots image f.inode node
       node_is = subst (λ (v : Inode). IsNodeOf g t.slots image v node) same at.is
 
-  entry_charged : (ino : ℕ) (x : Option FoundInode) (y : Option FlatNode) → IsFound g image t ino x → IsMapEntry g t.slots image ino (slice_index t.inodes ino) y → found_charge g x ≡ charged y
+  entry_charged : (ino : ℕ) (x : Option FoundInode) (y : Option FlatNode) → IsFound g image t ino x → IsMapEntry g t.slots image ino (slice_index t.inodes ino) y → found_charge g.k g.log x ≡ charged y
   entry_charged ino None None is at = refl
   entry_charged ino None (Some node) is at = absurd (in_log-some g limits (slice_index t.inodes ino) at.there.in_log is.0)
   entry_charged ino (Some f) None is none = absurd (in_log-some g limits f.address is.there.3.in_log (sym is.there.2 ∙ none))
@@ -143,7 +143,7 @@ module _ (g : Layout) (limits : IsWithinLimits g) (image : Image) (t : TableValu
   parts_most true n le = omega arith
   parts_most false n le = omega arith
 
-  charged_most : (ino : ℕ) (x : Option FoundInode) → IsFound g image t ino x → found_charge g x ≤ 1038
+  charged_most : (ino : ℕ) (x : Option FoundInode) → IsFound g image t ino x → found_charge g.k g.log x ≤ 1038
   charged_most ino None is = omega arith
   charged_most ino (Some f) is =
       let few = count_by-le-length (is_logged g.k g.log) f.pointers.items in
@@ -152,23 +152,23 @@ module _ (g : Layout) (limits : IsWithinLimits g) (image : Image) (t : TableValu
       parts_most (list_any is_address (drop 12 f.pointers.items)) (count_by (is_logged g.k g.log) f.pointers.items) (omega arith)
 
   module _ (found : List (Option FoundInode)) (are : AreSurveyed g image t found) (nodes : Nodes) (has : HasNodes g image t nodes) where
-    number_charged : (ino : ℕ) → ino < length found → found_charge g (slice_index_or found ino None) ≡ charged (get nodes ino)
-    number_charged zero lt = ap (found_charge g) are.zero ∙ sym (ap charged has.zero)
+    number_charged : (ino : ℕ) → ino < length found → found_charge g.k g.log (slice_index_or found ino None) ≡ charged (get nodes ino)
+    number_charged zero lt = ap (found_charge g.k g.log) are.zero ∙ sym (ap charged has.zero)
     number_charged (suc i) lt =
         let count = are.count in
         let high : suc i < g.inodes = omega arith in
         entry_charged (suc i) (slice_index_or found (suc i) None) (get nodes (suc i)) (are.each (suc i) high) (has.entries (suc i) (omega arith) high)
 
-    few : sum_by (found_charge g) found < 2 ^ 32 - 1
+    few : sum_by (found_charge g.k g.log) found < 2 ^ 32 - 1
     few =
-        let most : sum_by (found_charge g) found ≤ length found * 1038 = sum_by-le (found_charge g) 1038 found (All-from_get_or (λ (x : Option FoundInode). found_charge g x ≤ 1038) found None (λ ino lt.
+        let most : sum_by (found_charge g.k g.log) found ≤ length found * 1038 = sum_by-le (found_charge g.k g.log) 1038 found (All-from_get_or (λ (x : Option FoundInode). found_charge g.k g.log x ≤ 1038) found None (λ ino lt.
         (let count = are.count in charged_most ino (get_or found ino None) (are.each ino (omega arith))))) in
         let count = are.count in
         let numbers = limits.inode_count.1 in
         omega arith
 
     -- what all that was found is charged is the charge of the nodes
-    pub charge_is : (charge : ℕ) → charge ≡ min (sum_by (found_charge g) found) (2 ^ 32 - 1) → charge ≡ flat_charge nodes
+    pub charge_is : (charge : ℕ) → charge ≡ min (sum_by (found_charge g.k g.log) found) (2 ^ 32 - 1) → charge ≡ flat_charge nodes
     charge_is charge is =
         let all = all_charged g found nodes number_charged (λ ino ge. has.past ino (let count = are.count in omega arith)) in
         let small = few in

@@ -20,13 +20,13 @@ use hl_addr::{Geometry, NOTHING};
 use hl_survey::FoundInode;
 
 /// How many of the pointers name a block of the log; at most 2^32 - 1.
-fn count_here(geometry: &Geometry, pointers: &[u32]) -> u32
-    ensures { result ≡ min (count_by (is_logged geometry.now.k geometry.now.log) pointers.now)
-        (2 ^ 32 - 1) }
+fn count_here(k: u32, segments: usize, pointers: &[u32]) -> u32
+    requires { 0 < k }
+    ensures { result ≡ min (count_by (is_logged k segments) pointers.now) (2 ^ 32 - 1) }
 {
     let mut count: u32 = 0;
     'pointers: for i in 0..pointers.len() {
-        if is_logged(geometry.k, geometry.log as usize, pointers[i]) {
+        if is_logged(k, segments, pointers[i]) {
             count = count.saturating_add(1);
         }
     }
@@ -45,12 +45,13 @@ fn has_far(pointers: &[u32]) -> bool
     false
 }
 
-/// What an inode with these pointers is charged: a block for itself, one for its pointer block, if it has one, and those
+/// What an inode with these pointers is charged, where the log has so many segments of k blocks: a block for itself, one for its pointer block, if it has one, and those
 /// of its blocks that are in the log; at most 2^32 - 1.
-fn charge_of(geometry: &Geometry, pointers: &[u32]) -> u32
-    ensures { result ≡ min (pointers_charge geometry.now pointers.now) (2 ^ 32 - 1) }
+fn charge_of(k: u32, segments: usize, pointers: &[u32]) -> u32
+    requires { 0 < k }
+    ensures { result ≡ min (pointers_charge k segments pointers.now) (2 ^ 32 - 1) }
 {
-    let count = count_here(geometry, pointers);
+    let count = count_here(k, segments, pointers);
     if has_far(pointers) {
         count.saturating_add(2)
     } else {
@@ -59,22 +60,24 @@ fn charge_of(geometry: &Geometry, pointers: &[u32]) -> u32
 }
 
 /// What was found of a number is charged so much; at most 2^32 - 1.
-fn charge_at(geometry: &Geometry, found: &Option<FoundInode>) -> u32
-    ensures { result ≡ min (found_charge geometry.now found.now) (2 ^ 32 - 1) }
+fn charge_at(k: u32, segments: usize, found: &Option<FoundInode>) -> u32
+    requires { 0 < k }
+    ensures { result ≡ min (found_charge k segments found.now) (2 ^ 32 - 1) }
 {
     match found {
-        Some(found) => charge_of(geometry, found.pointers.as_slice()),
+        Some(found) => charge_of(k, segments, found.pointers.as_slice()),
         None => 0,
     }
 }
 
 /// What all that was found is charged; at most 2^32 - 1.
-fn charge_found(geometry: &Geometry, found: &[Option<FoundInode>]) -> u32
-    ensures { result ≡ min (sum_by (found_charge geometry.now) found.now) (2 ^ 32 - 1) }
+fn charge_found(k: u32, segments: usize, found: &[Option<FoundInode>]) -> u32
+    requires { 0 < k }
+    ensures { result ≡ min (sum_by (found_charge k segments) found.now) (2 ^ 32 - 1) }
 {
     let mut charge: u32 = 0;
     'numbers: for number in 0..found.len() {
-        charge = charge.saturating_add(charge_at(geometry, &found[number]));
+        charge = charge.saturating_add(charge_at(k, segments, &found[number]));
     }
     charge
 }
@@ -86,7 +89,7 @@ pub fn charge(geometry: &Geometry, found: &[Option<FoundInode>]) -> u32
         → AreSurveyed geometry.now image t found.now → HasNodes geometry.now image t nodes
         → result ≡ flat_charge nodes }
 {
-    charge_found(geometry, found)
+    charge_found(geometry.k, geometry.log as usize, found)
 }
 
 /// Block 0 where the charge of a disk's nodes is above the quota of the site, and else none.

@@ -2,6 +2,7 @@
 
 ghost use Rattle.std.specs.Prelude.{◌≡◌, ◌↔◌, ◌+◌, ◌≤◌, ◌<◌, ℕ, List, IfOk, IsTrue, length};
 ghost use Rattle.hl_media.specs.History.{Image};
+ghost use Rattle.hl_addr.specs.Layout.{IsWithinLimits};
 ghost use Rattle.hl_super.specs.declared.record.Record.{Record};
 ghost use Rattle.hl_summary.specs.declared.parts.Summary.{Summary};
 ghost use Rattle.hl_log.specs.Free.{AreClean};
@@ -36,7 +37,8 @@ fn empty_segments(
 ) -> Result<Vec<u32>, AllocError>
     requires covered { length covered.now ≡ geometry.now.log + 1 }
     requires live { length live.now ≡ geometry.now.log }
-    ensures { IfOk result (λ clean.
+    ensures limits { IsWithinLimits geometry.now }
+    ensures empty { IfOk result (λ clean.
         AreEmptyBelow at covered.now live.now (geometry.now.log + 1) clean.items) }
 {
     let mut clean = Vec::new(alloc);

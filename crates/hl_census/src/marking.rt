@@ -1,6 +1,7 @@
 //! Which segments are used.
 
 ghost use Rattle.std.specs.Prelude.{◌≡◌, ◌⊎◌, ◌↔◌, ◌+◌, ◌/◌, ◌<◌, ◌≤◌, ℕ, List, IfOk, IsTrue, length};
+ghost use Rattle.hl_addr.specs.Layout.{IsWithinLimits};
 ghost use Rattle.hl_summary.specs.declared.parts.Summary.{Summary};
 ghost use Rattle.hl_nodes.specs.Sound.{IsMarked, head_of};
 ghost use Rattle.hl_census.specs.Covering.{IsCovered};
@@ -85,12 +86,14 @@ pub(crate) fn used_segments(
 ) -> Result<Vec<bool>, AllocError>
     requires used { length tables.now.used ≡ geometry.now.log }
     requires covered { length covered.now ≡ geometry.now.log + 1 }
+    ensures limits { IsWithinLimits geometry.now }
     ensures count { IfOk result (λ used. length used.items ≡ geometry.now.log + 1) }
     ensures used { IfOk result (λ used. (parts : List Summary)
         → at ≡ head_of rec.now parts → IsCovered geometry.now rec.now parts covered.now
         → AreUsed geometry.now rec.now parts tables.now used.items) }
 {
+    let k = geometry.k;
     let mut used = held_segments(alloc, geometry, tables, at, covered)?;
-    mark_all(geometry.k, &mut used, rec.tables.items());
+    mark_all(k, &mut used, rec.tables.items());
     Ok(used)
 }
