@@ -1,6 +1,7 @@
 //! Which segments are used.
 
-ghost use Rattle.std.specs.Prelude.{◌≡◌, ◌⊎◌, ◌↔◌, ◌+◌, ◌/◌, ◌<◌, ◌≤◌, ℕ, List, IfOk, IsTrue, length};
+ghost use Rattle.std.specs.Prelude.{◌≡◌, ◌⊎◌, ◌↔◌, ◌+◌, ◌/◌, ◌<◌, ◌≤◌, ℕ, List, IfOk, IsTrue, false, length};
+ghost use Rattle.std.specs.List.{slice_index_or};
 ghost use Rattle.hl_addr.specs.Layout.{IsWithinLimits};
 ghost use Rattle.hl_summary.specs.declared.parts.Summary.{Summary};
 ghost use Rattle.hl_nodes.specs.Sound.{IsMarked, head_of};

@@ -1,6 +1,6 @@
 //! The addresses that tables and inodes name.
 
-ghost use Rattle.std.specs.Prelude.{◌≡◌, ◌++◌, ℕ, IfOk, OnOk, filter};
+ghost use Rattle.std.specs.Prelude.{[], ◌∷◌, ◌≡◌, ◌++◌, if◌then◌else◌, IfOk, OnOk, filter};
 ghost use Rattle.hl_media.specs.History.{Image};
 ghost use Rattle.hl_addr.specs.Layout.{IsWithinLimits, Layout};
 ghost use Rattle.hl_tables.specs.Values.{TableValues};
