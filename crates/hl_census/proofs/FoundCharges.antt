@@ -7,6 +7,7 @@ use Rattle.std.specs.Ordering.{nat_cmp}
 use Rattle.std.proofs.lemmas.Bool.{cases_eq, eq-eqb, false_from_ne_true}
 use Rattle.std.proofs.lemmas.List.{get_or-drop, take_all}
 use Rattle.std.proofs.lemmas.List.Elements.{All-from_get_or}
+use Rattle.std.proofs.lemmas.List.Folds.{list_any_at, list_any_none}
 use Rattle.std.proofs.lemmas.List.Sums.{count_by-le-length, sum_by-cons, sum_by-le, sum_by_more}
 use Rattle.hl_media.specs.History.{Image}
 use Rattle.hl_addr.specs.Layout.{IsWithinLimits, Layout}
@@ -98,26 +99,13 @@ same_any_from p q (suc k) (a ∷ row) [] size each = absurd (omega arith)
 same_any_from p q (suc k) (a ∷ row) (b ∷ bs) size each = same_any_from p q k row bs (omega arith) (λ i lt. each (suc i) (omega arith))
 
 -- SOME ONE PASSES a test from a place on, or none does
-or_true : (b : Bool) → (b || true) ≡ true
-or_true true = refl
-or_true false = refl
-
-any_in : (p : ℕ → Bool) (xs : List ℕ) (i : ℕ) → i < length xs → p (slice_index xs i) ≡ true → list_any p xs ≡ true
-any_in p [] i lt e = absurd (omega arith)
-any_in p (x ∷ xs) zero lt e = ap (λ (b : Bool). b || list_any p xs) e
-any_in p (x ∷ xs) (suc i) lt e = ap (λ (b : Bool). p x || b) (any_in p xs i (omega arith) e) ∙ or_true (p x)
-
-none_in : (p : ℕ → Bool) (xs : List ℕ) → ((i : ℕ) → i < length xs → p (slice_index xs i) ≡ false) → list_any p xs ≡ false
-none_in p [] none = refl
-none_in p (x ∷ xs) none = ap (λ (b : Bool). b || list_any p xs) (none 0 (omega arith)) ∙ none_in p xs (λ i lt. none (suc i) (omega arith))
-
 pub any_from : (p : ℕ → Bool) (k : ℕ) (xs : List ℕ) (i : ℕ) → k ≤ i → i < length xs → p (slice_index xs i) ≡ true → list_any p (drop k xs) ≡ true
 any_from p k xs i low lt e =
     let place : k + (i - k) ≡ i = omega arith in
-    any_in p (drop k xs) (i - k) (omega (arith, length-drop k xs)) (ap p (get_or-drop k xs (i - k) 0 ∙ ap (slice_index xs) place) ∙ e)
+    list_any_at p (drop k xs) (i - k) 0 (omega (arith, length-drop k xs)) (ap p (get_or-drop k xs (i - k) 0 ∙ ap (slice_index xs) place) ∙ e)
 
 pub none_from : (p : ℕ → Bool) (k : ℕ) (xs : List ℕ) → ((i : ℕ) → k ≤ i → i < length xs → p (slice_index xs i) ≡ false) → list_any p (drop k xs) ≡ false
-none_from p k xs none = none_in p (drop k xs) (λ i lt. ap p (get_or-drop k xs i 0) ∙ none (k + i) (omega arith) (omega (arith, length-drop k xs)))
+none_from p k xs none = list_any_none p (drop k xs) (All-from_get_or (λ (x : ℕ). p x ≡ false) (drop k xs) 0 (λ i lt. ap p (get_or-drop k xs i 0) ∙ none (k + i) (omega arith) (omega (arith, length-drop k xs))))
 
 module _ (g : Layout) (limits : IsWithinLimits g) (image : Image) (t : TableValues) where
   -- A POINTER is in the log where its block is here, and Nothing where it is a hole

@@ -25,8 +25,8 @@ fn count_here(k: u32, segments: usize, pointers: &[u32]) -> u32
     ensures { result ≡ min (count_by (is_logged k segments) pointers.now) (2 ^ 32 - 1) }
 {
     let mut count: u32 = 0;
-    'pointers: for i in 0..pointers.len() {
-        if is_logged(k, segments, pointers[i]) {
+    'pointers: for pointer in pointers {
+        if is_logged(k, segments, *pointer) {
             count = count.saturating_add(1);
         }
     }

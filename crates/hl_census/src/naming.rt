@@ -27,8 +27,8 @@ fn push_address(named: &mut Vec<u32>, address: u32) -> Result<(), AllocError>
 fn push_addresses(named: &mut Vec<u32>, addresses: &[u32]) -> Result<(), AllocError>
     ensures { OnOk result (named.new.items ≡ named.old.items ++ filter is_address addresses.now) }
 {
-    'addresses: for i in 0..addresses.len() {
-        push_address(named, addresses[i])?;
+    'addresses: for address in addresses {
+        push_address(named, *address)?;
     }
     Ok(())
 }

@@ -32,8 +32,8 @@ fn add_all(k: u32, live: &mut [u32], addresses: &[u32])
     requires { 0 < k }
     ensures { live.new ≡ fold (added k) live.old addresses.now }
 {
-    'addresses: for i in 0..addresses.len() {
-        add(k, live, addresses[i]);
+    'addresses: for address in addresses {
+        add(k, live, *address);
     }
 }
 
