@@ -1,5 +1,5 @@
 -- The clean segments, of those that were found empty.
-use Rattle.std.proofs.Common.{◌≡◌, ◌≢◌, inl, inr, ⊎_elim, ℕ, ◌+◌, ◌-◌, ◌/◌, ◌<◌, ◌≤◌, List, [], ◌∷◌, ◌++◌, get_or, refl, sym, ◌∙◌, ap, subst, arith}
+use Rattle.std.proofs.Common.{◌≡◌, ◌≢◌, inl, inr, ⊎_elim, ℕ, ◌+◌, ◌-◌, ◌/◌, ◌<◌, ◌≤◌, List, [], ◌∷◌, ◌++◌, length-append, get_or, refl, sym, ◌∙◌, ap, subst, arith}
 use Rattle.std.specs.Prelude.{AllPairs, Contains, slice_index}
 use Rattle.std.proofs.lemmas.Bool.{cases_eq}
 use Rattle.std.proofs.lemmas.List.Elements.{Contains-append_left, Contains-get_or, Contains-push, Contains-push_cases}
@@ -29,6 +29,7 @@ module _ (at : LogPlace) (covered live : List ℕ) where
   empty_none = record {
     each = λ seg. (λ c. absurd (let lt = c.1 in omega arith), λ is. absurd (let low = is.0 in let lt = is.1 in omega arith));
     rising = pairs_nil (λ (a b : ℕ). a < b);
+    few = omega arith;
   }
 
   module _ (end : ℕ) (clean : List ℕ) (are : AreEmptyBelow at covered live end clean) where
@@ -40,6 +41,7 @@ module _ (at : LogPlace) (covered live : List ℕ) where
         λ is. (are.each seg).1 (is.0, below seg is.1 is.2, is.2),
       );
       rising = are.rising;
+      few = (let lt = are.few in omega arith);
     }
       where
         below : (seg : ℕ) → seg < end + 1 → IsEmptySegment at covered live seg → seg < end
@@ -61,6 +63,7 @@ module _ (at : LogPlace) (covered live : List ℕ) where
           ],
         );
         rising = all_pairs_push (λ (a b : ℕ). a < b) clean end are.rising (λ m d lt. ((are.each (get_or clean m d)).0 (Contains-get_or clean m d lt)).1);
+        few = (let lt = are.few in let size = length-append clean (end ∷ []) in omega arith);
       }
 
 -- numbers that rise stand once

@@ -1,5 +1,5 @@
 -- Segments in which nothing is.
-use Rattle.std.specs.Prelude.{◌≡◌, ◌≢◌, ◌↔◌, ℕ, ◌-◌, ◌<◌, ◌≤◌, AllPairs, Contains, List, slice_index}
+use Rattle.std.specs.Prelude.{◌≡◌, ◌≢◌, ◌↔◌, ℕ, ◌-◌, ◌<◌, ◌≤◌, AllPairs, Contains, List, length, slice_index}
 use Rattle.hl_image.specs.declared.place.LogPlace.{LogPlace}
 
 -- the segment isn't the head's, and has neither a part nor a live block
@@ -12,3 +12,4 @@ pub record IsEmptySegment (at : LogPlace) (covered live : List ℕ) (seg : ℕ) 
 pub record AreEmptyBelow (at : LogPlace) (covered live : List ℕ) (end : ℕ) (clean : List ℕ) : Type 0 where
   pub each : (seg : ℕ) → Contains clean seg ↔ ((1 ≤ seg) × (seg < end) × IsEmptySegment at covered live seg)
   pub rising : AllPairs (λ one other. one < other) clean
+  pub few : length clean < end

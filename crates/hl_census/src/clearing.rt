@@ -62,6 +62,7 @@ pub fn clean(
     requires covered { length covered.now ≡ geometry.now.log + 1 }
     requires live { length live.now ≡ geometry.now.log }
     ensures of_log { IfOk result (λ clean. AreClean geometry.now at.seg clean.items) }
+    ensures few { IfOk result (λ clean. length clean.items ≤ geometry.now.log) }
     ensures clean { IfOk result (λ clean. (image : Image) (rec : Record) (parts : List Summary)
         (t : TableValues) → at ≡ head_of rec parts → IsCovered geometry.now rec parts covered.now
         → AreLive geometry.now image rec t live.now

@@ -1,4 +1,4 @@
-use Rattle.std.proofs.Common.{◌≡◌, ◌+◌, ℕ, List}
+use Rattle.std.proofs.Common.{◌≡◌, ◌+◌, ◌≤◌, ℕ, List, length, arith}
 use Rattle.std.specs.Global.{Vec}
 use Rattle.std.proofs.lemmas.Result.{IfOk-weaker}
 use Rattle.hl_media.specs.History.{Image}
@@ -24,6 +24,15 @@ returns-clause-of_log c =
     (λ (r : Vec ℕ). AreEmptyBelow at covered live (g.log + 1) r.items)
     (λ (r : Vec ℕ). AreClean g at.seg r.items)
     (λ r are. clean_in_log g c.empty_segments.ensures.limits at covered live r.items are)
+    c.empty_segments.ensures.empty
+
+pub returns-clause-few : goal.returns-clause-few
+returns-clause-few c =
+    let g = c.args.geometry.now in
+    IfOk-weaker c.empty_segments.result
+    (λ (r : Vec ℕ). AreEmptyBelow c.args.at c.args.covered.now c.args.live.now (g.log + 1) r.items)
+    (λ (r : Vec ℕ). length r.items ≤ g.log)
+    (λ r are. (let lt = are.few in omega arith))
     c.empty_segments.ensures.empty
 
 pub returns-clause-clean : goal.returns-clause-clean
