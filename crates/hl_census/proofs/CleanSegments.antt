@@ -67,7 +67,7 @@ module _ (at : LogPlace) (covered live : List ℕ) where
       }
 
 -- numbers that rise stand once
-rising_once : (xs : List ℕ) → AllPairs (λ one other. one < other) xs → Once xs
+rising_once : (xs : List ℕ) → AllPairs (λ (one other : ℕ). one < other) xs → Once xs
 rising_once [] rises = tt
 rising_once (x ∷ xs) rises = (
   λ c. (let up : x < x = pairs_head (λ (a b : ℕ). a < b) x x xs rises c in omega arith),

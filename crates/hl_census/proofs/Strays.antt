@@ -1,7 +1,7 @@
 -- Blocks that stray, by the addresses that are named and how far the chain reaches.
 use Rattle.std.proofs.Common.{◌≡◌, ◌≢◌, inl, inr, ⊎_elim, ℕ, ◌+◌, ◌-◌, ◌*◌, ◌/◌, ◌%◌, ◌^◌, ◌<◌, ◌≤◌, min, Bool, true, List, sym, ◌∙◌, ap, subst, arith}
 use Rattle.std.specs.Prelude.{Contains, Option, Some, None, slice_index}
-use Rattle.std.proofs.Math.Nat.{mul-le-mul}
+use Rattle.std.proofs.lemmas.Nat.{mul-le}
 use Rattle.hl_media.specs.History.{Image}
 use Rattle.hl_addr.specs.Layout.{IsWithinLimits, Layout}
 use Rattle.hl_addr.proofs.PlaceLemmas.{has_blocks}
@@ -53,7 +53,7 @@ module _ (g : Layout) (limits : IsWithinLimits g) (at : LogPlace) (place : IsLog
   one_ahead told far is = ⊎_elim (λ none. absurd (omega arith)) (λ last.
       let lt = last.2 in
       let n : slice_index covered at.seg ≡ last.0 + 1 = last.1 in
-      let product : g.k * at.seg ≤ 512 * 4096 = mul-le-mul (most_segment g.k limits.segment_size) (seg_most at.seg place.high) in
+      let product : g.k * at.seg ≤ 512 * 4096 = mul-le g.k at.seg 512 4096 (most_segment g.k limits.segment_size) (seg_most at.seg place.high) in
       let small : g.k * at.seg + last.0 < 2 ^ 32 - 1 = (let k = most_segment g.k limits.segment_size in omega arith) in
       let e : g.k * at.seg + last.0 ≡ told = omega arith in (
         subst (Covers g (start_of rec) parts) e last.3,

@@ -11,5 +11,5 @@ pub record IsEmptySegment (at : LogPlace) (covered live : List ℕ) (seg : ℕ) 
 -- the empty segments from 1 on, below this one, in rising order
 pub record AreEmptyBelow (at : LogPlace) (covered live : List ℕ) (end : ℕ) (clean : List ℕ) : Type 0 where
   pub each : (seg : ℕ) → Contains clean seg ↔ ((1 ≤ seg) × (seg < end) × IsEmptySegment at covered live seg)
-  pub rising : AllPairs (λ one other. one < other) clean
+  pub rising : AllPairs (λ (one other : ℕ). one < other) clean
   pub few : length clean < end

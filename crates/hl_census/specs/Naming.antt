@@ -19,8 +19,8 @@ pub record Naming : Type 0 where
 pub record AreNamed (g : Layout) (image : Image) (rec : Record) (t : TableValues) (addresses : List ℕ) : Type 0 where
   pub namings : List Naming
   pub each : (n : Naming) → Contains namings n ↔ IsNamedAt g image rec t n.block n.address
-  pub once : AllPairs (λ one other. one.block ≢ other.block) namings
-  pub are : addresses ≡ map (λ n. n.address) namings
+  pub once : AllPairs (λ (one other : Naming). one.block ≢ other.block) namings
+  pub are : addresses ≡ map (λ (n : Naming). n.address) namings
 
 -- each of the addresses lies in the log
 abbrev pub LieInLog : Layout → List ℕ → Type 0

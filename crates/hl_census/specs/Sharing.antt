@@ -2,7 +2,7 @@
 use Rattle.std.specs.Prelude.{ℕ, ◌≤◌, ◌==◌, List, count_by, Option, Some, None}
 
 abbrev pub times : ℕ → List ℕ → ℕ
-times x xs = count_by (λ y. y == x) xs
+times x xs = count_by (λ (y : ℕ). y == x) xs
 
 -- a number that stands there twice or more, or none where each stands there at most once
 abbrev pub TellsTwice : List ℕ → Option ℕ → Type 0
