@@ -43,9 +43,9 @@ module _ (g : Layout) (slots : SlotTable) (kind : Kind) where
 
     module _ (v s b : ℕ) (at : IsAt g address (Tertiary v s b)) (held : Slot) (held_is : slot_at slots (slot_number g.volumes v s) ≡ held) where
       -- an address in a slot is one where the slot holds the block of a file
-      pub away_pointer : kind ≡ File → HoldsBlock held b (data_max g) → IsPointer g slots kind address
-      away_pointer file has = inr (inr (record {
-        file = file;
+      pub away_pointer : HoldsBlock held kind b (data_max g) → IsPointer g slots kind address
+      away_pointer has = inr (inr (record {
+        file = has.file;
         serial = has.serial;
         position = b;
         lies = record {
@@ -58,7 +58,7 @@ module _ (g : Layout) (slots : SlotTable) (kind : Kind) where
         };
       }))
 
-      pub pointer_away : IsPointer g slots kind address → (kind ≡ File) × HoldsBlock held b (data_max g)
+      pub pointer_away : IsPointer g slots kind address → HoldsBlock held kind b (data_max g)
       pointer_away (inl none) = (let e : Nothing ≡ Tertiary v s b = only Nothing none ∙ sym (only (Tertiary v s b) at) in cc)
       pointer_away (inr (inl near)) = (let e : Log near.segment near.block ≡ Tertiary v s b = only (Log near.segment near.block) near.place ∙ sym (only (Tertiary v s b) at) in cc)
       pointer_away (inr (inr far)) =
@@ -67,12 +67,11 @@ module _ (g : Layout) (slots : SlotTable) (kind : Kind) where
           let volume : lies.volume ≡ v = cc in
           let slot : lies.slot ≡ s = cc in
           let position : far.position ≡ b = cc in
-          let number : slot_number g.volumes lies.volume lies.slot ≡ slot_number g.volumes v s = ap (λ (x : ℕ). slot_number g.volumes x lies.slot) volume ∙ ap (slot_number g.volumes v) slot in (
-            far.file,
-            record {
-              serial = far.serial;
-              holds = subst (λ (x : Slot). HoldsSerial x far.serial) held_is (subst (λ (n : ℕ). HoldsSerial (slot_at slots n) far.serial) number lies.holds);
-              low = subst (λ (x : ℕ). 1 ≤ x) position lies.low;
-              high = subst (λ (x : ℕ). x ≤ data_max g) position lies.high;
-            },
-          )
+          let number : slot_number g.volumes lies.volume lies.slot ≡ slot_number g.volumes v s = ap (λ (x : ℕ). slot_number g.volumes x lies.slot) volume ∙ ap (slot_number g.volumes v) slot in
+          record {
+            file = far.file;
+            serial = far.serial;
+            holds = subst (λ (x : Slot). HoldsSerial x far.serial) held_is (subst (λ (n : ℕ). HoldsSerial (slot_at slots n) far.serial) number lies.holds);
+            low = subst (λ (x : ℕ). 1 ≤ x) position lies.low;
+            high = subst (λ (x : ℕ). x ≤ data_max g) position lies.high;
+          }

@@ -1,5 +1,8 @@
 pub mod Looking
 pub mod Classes
-pub mod Reads
+pub mod Unchanged
 pub mod Stopping
 pub mod RulesKept
+pub mod Pushing
+pub mod PointerBlocks
+pub mod FoundInodes

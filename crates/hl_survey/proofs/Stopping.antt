@@ -8,7 +8,7 @@ use Rattle.hl_nodes.specs.declared.rule.Rule.{Rule}
 use Rattle.hl_survey.specs.declared.found.SurveyStop.{SurveyStop}
 use Rattle.hl_survey.specs.declared.found.SurveyStop.TheVariants as stop
 use Rattle.hl_survey.specs.Stops.{Stops}
-use Rattle.hl_survey.proofs.Reads.{held_before}
+use Rattle.hl_survey.proofs.Unchanged.{held_before}
 
 -- a count that rose behind an earlier moment rose since
 rose_since : (a b c : ℕ) → a ≤ b → Rose b c → Rose a c

@@ -5,14 +5,17 @@ use Rattle.hl_addr.specs.Layout.{Layout}
 use Rattle.hl_tseg.specs.SlotTable.{SlotTable}
 use Rattle.hl_tseg.specs.Slots.{HoldsSerial}
 use Rattle.hl_tseg.specs.declared.slot.Slot.{Slot}
+use Rattle.hl_inode.specs.declared.inode.Kind.{Kind}
+use Rattle.hl_inode.specs.declared.inode.Kind.TheVariants.{File}
 use Rattle.hl_inode.specs.declared.inode.Inode.{Inode}
 use Rattle.hl_inode.specs.Pointers.{pointers_of}
 use Rattle.hl_placed.specs.Blocks.{blocks_of}
 use Rattle.hl_nodes.specs.Pointers.{HasPointerBlock}
 use Rattle.hl_survey.specs.Surveys.{ArePointers}
 
--- the slot holds a segment with a block at this position, of the most that a segment may have
-pub record HoldsBlock (slot : Slot) (position most : ℕ) : Type 0 where
+-- the slot holds a segment with a block of such a node at this position, of the most that a segment may have
+pub record HoldsBlock (slot : Slot) (kind : Kind) (position most : ℕ) : Type 0 where
+  pub file : kind ≡ File
   pub serial : ℕ
   pub holds : HoldsSerial slot serial
   pub low : 1 ≤ position
@@ -23,7 +26,7 @@ abbrev pub number_at : List ℕ → ℕ → ℕ
 number_at block i = slice_index (pointers_of block) i
 
 -- the pointer block names a block, and none past the size
-pub record IsWholeBlock (size : ℕ) (block : List ℕ) : Type 0 where
+pub record NamesOwnBlocks (size : ℕ) (block : List ℕ) : Type 0 where
   pub named : ℕ
   pub low : named < 1024
   pub names : number_at block named ≢ 4294967295

@@ -10,7 +10,7 @@ ghost use Rattle.hl_log.specs.Logs.{OnlyReads, site_blocks};
 ghost use Rattle.hl_nodes.specs.Pointers.{pointer_of};
 ghost use Rattle.hl_nodes.specs.Breaks.{HasOffPointer};
 ghost use Rattle.hl_survey.specs.Surveys.{ArePointers, IsPointer};
-ghost use Rattle.hl_survey.specs.Pointing.{HasBlock, HasPointers, HoldsBlock, IsOffBlock, IsWholeBlock, SpellsPointers, number_at};
+ghost use Rattle.hl_survey.specs.Pointing.{HasBlock, HasPointers, HoldsBlock, IsOffBlock, NamesOwnBlocks, SpellsPointers, number_at};
 ghost use Rattle.hl_survey.specs.Stops.{BreaksPointers, Stops};
 
 use crate::found::SurveyStop;
@@ -27,11 +27,12 @@ use std::alloc::{AllocError, Global};
 /// The pointers of an inode itself.
 const DIRECT: u32 = 12;
 
-/// Whether a slot holds a segment that has a block at this position, of the most that a segment may have.
-fn holds_block(slot: Slot, position: u32, most: u32) -> bool
-    ensures { IsTrue result ↔ HoldsBlock slot position most }
+/// Whether a slot holds a segment that has a block of a node of this kind at this position, of the most that a segment may
+/// have.
+fn holds_block(slot: Slot, kind: Kind, position: u32, most: u32) -> bool
+    ensures { IsTrue result ↔ HoldsBlock slot kind position most }
 {
-    if position == 0 || most < position {
+    if kind == Kind::Dir || position == 0 || most < position {
         return false;
     }
     match slot {
@@ -64,7 +65,7 @@ fn is_pointer(geometry: &Geometry, slots: &TsegTable, kind: Kind, address: u32) 
             block,
         } => {
             let held = held_slot(geometry, slots, volume, slot);
-            kind == Kind::File && holds_block(held, block, geometry.data_max())
+            holds_block(held, kind, block, geometry.data_max())
         }
         _ => false,
     }
@@ -98,9 +99,9 @@ fn entry_at(block: &[u8], i: u32) -> u32
 
 /// Whether a pointer block names a block, and none past the size.
 #[tactic(auto, unfolding(hl_placed::specs::Blocks::blocks_of))]
-fn is_whole(size: u64, block: &[u8]) -> bool
+fn names_own_blocks(size: u64, block: &[u8]) -> bool
     requires { length block.now ≡ 4096 }
-    ensures so { IsTrue result → IsWholeBlock size block.now }
+    ensures so { IsTrue result → NamesOwnBlocks size block.now }
     ensures not { result ≡ false → IsOffBlock size block.now }
 {
     let blocks = size.div_ceil(4096);
@@ -173,7 +174,7 @@ fn read_pointer_block<M: Machine>(
         });
     }
     read_block(machine, inode.single, out)?;
-    if is_whole(inode.size, out) {
+    if names_own_blocks(inode.size, out) {
         Ok(())
     } else {
         Err(SurveyStop::Damaged {

@@ -1,13 +1,16 @@
 //! What no clause says: that a survey of a hand-made disk succeeds with ample memory, and what it tells of one that breaks
 //! each of the rules.
 
-ghost use Rattle.std.specs.Prelude.{IfOk, length, ◌≡◌};
-ghost use Rattle.hl_tables.specs.Values.{AreTables};
+ghost use Rattle.std.specs.Prelude.{IfOk, length, ◌≡◌, ◌≤◌, ◌∷◌, []};
+ghost use Rattle.hl_addr.specs.Layout.{table_blocks};
+ghost use Rattle.hl_log.specs.Logs.{site_blocks};
+ghost use Rattle.hl_tables.specs.Values.{SameShape, fresh};
 
 use super::*;
 use hl_addr::{Geometry, NOTHING, Numbers};
 use hl_bytes::{BLOCK, put_u32};
 use hl_inode::Kind;
+use hl_media::Machine;
 use hl_mem::MemMachine;
 use hl_nodes::Rule;
 use hl_super::Record;
@@ -42,6 +45,11 @@ const FIELDS: [(usize, usize, u32); 15] = [
     (74, 4, AWAY),
 ];
 
+/// A field and an entry as they are.
+const SAME_FIELD: (usize, usize, u32) = (70, 8, 1);
+
+const SAME_ENTRY: (u32, u32) = (1, 70);
+
 fn put(image: &mut [u8], field: (usize, usize, u32)) {
     if field.0 < 1_984 && field.1 < 4_093 && image.len() == BYTES {
         put_u32(image, BLOCK * field.0 + field.1, field.2);
@@ -63,13 +71,17 @@ fn image_of(alloc: Global) -> Result<Vec<u8>, AllocError> {
     Ok(image)
 }
 
-fn site(alloc: Global) -> Result<Geometry, Fail> {
+fn site(alloc: Global) -> Result<Geometry, Fail>
+    ensures { IfOk result (λ g. g ≡ record { k = 64; log = 16; lines = 14; inodes = 512; volumes = 4 ∷ [] }) }
+{
     let volumes = Numbers::of([4].to_vec(alloc)?);
     Ok(Geometry::new(64, 16, 14, 512, volumes).ok_or("off the limits")?)
 }
 
 /// A record whose table blocks stand in blocks 100 to 103.
-fn record(alloc: Global) -> Result<Record, AllocError> {
+fn record(alloc: Global) -> Result<Record, AllocError>
+    ensures { IfOk result (λ rec. length rec.tables ≡ 4) }
+{
     Ok(Record {
         number: 1,
         serial: 1,
@@ -82,48 +94,83 @@ fn record(alloc: Global) -> Result<Record, AllocError> {
     })
 }
 
-/// Tables in which numbers 1 and 2 are in use, the numbers given lie elsewhere, and slot 0 is staged in line 3 with the
-/// serial 9.
-fn tables_of(alloc: Global, site: &Geometry, entries: &[(u32, u32)]) -> Result<Tables, AllocError> {
-    let mut tables = Tables::new(alloc, site)?;
-    if 2 < site.inodes {
-        tables.set_inode(1, 70);
-        tables.set_inode(2, 71);
+/// Says where the inode of a number lies.
+fn enter(tables: &mut Tables, site: &Geometry, entry: (u32, u32))
+    requires { length tables.old.inodes ≡ site.now.inodes }
+    ensures { SameShape tables.old tables.new }
+{
+    if entry.0 < site.inodes {
+        tables.set_inode(entry.0, entry.1);
     }
-    for (ino, address) in entries {
-        if *ino < site.inodes {
-            tables.set_inode(*ino, *address);
-        }
-    }
+}
+
+/// Stages slot 0 in line 3, with the serial 9.
+fn stage(tables: &mut Tables)
+    ensures { SameShape tables.old tables.new }
+{
     let slots = tables.slots_mut();
     if 0 < slots.items().len() {
         slots.set(0, Slot::Staged { line: 3, serial: 9 });
     }
+}
+
+/// Tables in which numbers 1 and 2 are in use, one number has another entry, and a slot is staged.
+fn tables_of(alloc: Global, site: &Geometry, entry: (u32, u32)) -> Result<Tables, AllocError>
+    ensures { IfOk result (λ t. SameShape (fresh site.now) t) }
+{
+    let mut tables = Tables::new(alloc, site)?;
+    enter(&mut tables, site, (1, 70));
+    enter(&mut tables, site, (2, 71));
+    enter(&mut tables, site, entry);
+    stage(&mut tables);
     Ok(tables)
 }
 
-/// What a survey finds of the disk with these fields changed and these entries, where the call of a number fails.
+/// Surveys the site, whose tables have these shapes.
+fn survey_site(
+    alloc: Global,
+    machine: &mut MemMachine,
+    site: &Geometry,
+    rec: &Record,
+    tables: &Tables,
+) -> Result<Vec<Option<FoundInode>>, SurveyStop>
+    requires room { site_blocks site.now ≤ machine.old.blocks }
+    requires blocks { length rec.now.tables ≡ table_blocks site.now }
+    requires shape { SameShape (fresh site.now) tables.now }
+{
+    let slots = tables.slots().items().len();
+    if slots == 0 || site.inodes < 2 || tables.inode(0) == 1 {
+        return Err(SurveyStop::Memory);
+    }
+    survey(alloc, machine, site, rec, tables)
+}
+
+/// What a survey finds of the disk with a field changed and this entry, where the call of a number fails.
 fn surveyed(
     alloc: Global,
-    fields: &[(usize, usize, u32)],
-    entries: &[(u32, u32)],
+    field: (usize, usize, u32),
+    entry: (u32, u32),
     fails: u64,
 ) -> Result<Result<Vec<Option<FoundInode>>, SurveyStop>, Fail> {
     let site = site(alloc)?;
     let rec = record(alloc)?;
-    let tables = tables_of(alloc, &site, entries)?;
+    let tables = tables_of(alloc, &site, entry)?;
     let mut image = image_of(alloc)?;
-    for field in fields {
-        put(&mut image, *field);
+    put(&mut image, field);
+    if image.len() != BYTES {
+        return Err("another length")?;
     }
     let mut machine = MemMachine::of_image(alloc, &image)?;
+    if machine.blocks() < 1_984 {
+        return Err("too few blocks")?;
+    }
     machine.fail_call(alloc, fails)?;
-    Ok(survey(alloc, &mut machine, &site, &rec, &tables))
+    Ok(survey_site(alloc, &mut machine, &site, &rec, &tables))
 }
 
 #[test]
 fn a_hand_made_disk_is_surveyed(rt: HostRuntime) -> Result<(), Fail> {
-    let Ok(found) = surveyed(rt.alloc(), &[], &[], 0)? else {
+    let Ok(found) = surveyed(rt.alloc(), SAME_FIELD, SAME_ENTRY, 0)? else {
         return Err("it is in order")?;
     };
     assert!(rt; found.len() == 512);
@@ -151,7 +198,7 @@ fn a_hand_made_disk_is_surveyed(rt: HostRuntime) -> Result<(), Fail> {
 fn an_entry_that_is_off_is_told(rt: HostRuntime) -> Result<(), Fail> {
     // Number 0 is in use, the root isn't, an entry is in a line.
     for (ino, address) in [(0, 70), (1, NOTHING), (5, 1_088)] {
-        let told = surveyed(rt.alloc(), &[], &[(ino, address)], 0)?.err();
+        let told = surveyed(rt.alloc(), SAME_FIELD, (ino, address), 0)?.err();
         let block = 100;
         let rule = Rule::MapEntry;
         assert!(rt;
@@ -179,7 +226,7 @@ fn a_block_that_is_off_is_told(rt: HostRuntime) -> Result<(), Fail> {
         (74, 4, NOTHING, 74, Rule::PointerBlock),
         (74, 8, 75, 74, Rule::PointerBlock),
     ] {
-        let stop = surveyed(rt.alloc(), &[(block, at, value)], &[], 0)?.err();
+        let stop = surveyed(rt.alloc(), (block, at, value), SAME_ENTRY, 0)?.err();
         let block_told = told;
         let wanted = SurveyStop::Damaged {
             block: block_told,
@@ -193,9 +240,9 @@ fn a_block_that_is_off_is_told(rt: HostRuntime) -> Result<(), Fail> {
 #[test]
 fn a_failed_read_is_a_fault_and_no_fourth_block_is_read(rt: HostRuntime) -> Result<(), Fail> {
     for fails in [1, 2, 3] {
-        let stop = surveyed(rt.alloc(), &[], &[], fails)?.err();
+        let stop = surveyed(rt.alloc(), SAME_FIELD, SAME_ENTRY, fails)?.err();
         assert!(rt; stop == Some(SurveyStop::DiskFault), "call {fails}");
     }
-    assert!(rt; surveyed(rt.alloc(), &[], &[], 4)?.is_ok());
+    assert!(rt; surveyed(rt.alloc(), SAME_FIELD, SAME_ENTRY, 4)?.is_ok());
     Ok(())
 }
