@@ -1,5 +1,7 @@
 //! What no clause says: that all is counted with ample memory, and what is told of a hand-made disk.
 
+ghost use Rattle.std.specs.Prelude.{IfOk, ◌≡◌, ◌≤◌, ◌∷◌, []};
+
 use super::*;
 use hl_addr::{Geometry, NOTHING, Numbers};
 use hl_image::LogPlace;
@@ -13,7 +15,12 @@ use std::test::*;
 /// Block 1 of slot 0 of volume 0.
 const AWAY: u32 = 4_294_966_977;
 
-fn site(alloc: Global) -> Result<Geometry, Fail> {
+/// The chain reaches to block 5 of segment 2.
+const COVERED: [u32; 17] = [0, 0, 5, 0, 0, 0, 0, 0, 0, 0, 0, 0, 0, 0, 0, 0, 0];
+
+fn site(alloc: Global) -> Result<Geometry, Fail>
+    ensures { IfOk result (λ g. g ≡ record { k = 64; log = 16; lines = 14; inodes = 512; volumes = 4 ∷ [] }) }
+{
     let volumes = Numbers::of([4].to_vec(alloc)?);
     Ok(Geometry::new(64, 16, 14, 512, volumes).ok_or("off the limits")?)
 }
@@ -75,27 +82,19 @@ fn named_with(alloc: Global, block: u32) -> Result<Vec<u32>, AllocError> {
     named(alloc, &rec, found.as_slice())
 }
 
-/// What strays where the contents of number 1 stand in this block, the log goes on at this block of segment 2, and segment
-/// 1 is marked used.
-fn stray_with(alloc: Global, block: u32, head: u32) -> Result<Option<u32>, Fail> {
+/// What strays where the contents of number 1 stand in this block, and the log goes on at this block of segment 2.
+fn stray_with(alloc: Global, block: u32, head: u32) -> Result<Option<u32>, Fail>
+    requires { head ≤ 62 }
+{
     let site = site(alloc)?;
     let rec = record(alloc)?;
     let named = named_with(alloc, block)?;
-    let mut tables = Tables::new(alloc, &site)?;
-    tables.set_used(1, true);
-    let mut covered = vec![in alloc; 0; site.log as usize + 1]?;
-    if 2 < covered.len() {
-        covered[2] = 5;
-    }
-    if head + 2 <= site.k {
-        let at = LogPlace {
-            seg: 2,
-            block: head,
-        };
-        let covered = covered.as_slice();
-        return Ok(stray_block(alloc, &site, &rec, &tables, at, covered, named.as_slice())?);
-    }
-    Err("no place")?
+    let tables = Tables::new(alloc, &site)?;
+    let at = LogPlace {
+        seg: 2,
+        block: head,
+    };
+    Ok(stray_block(alloc, &site, &rec, &tables, at, &COVERED, named.as_slice())?)
 }
 
 #[test]
@@ -129,9 +128,8 @@ fn what_is_live_is_counted_and_what_is_not_is_clean(rt: HostRuntime) -> Result<(
     let site = site(rt.alloc())?;
     let named = named_with(rt.alloc(), 192)?;
     let live = live(rt.alloc(), &site, named.as_slice())?;
-    let covered = vec![in rt.alloc(); 0; site.log as usize + 1]?;
     let at = LogPlace { seg: 2, block: 5 };
-    let clean = clean(rt.alloc(), &site, at, covered.as_slice(), live.as_slice())?;
+    let clean = clean(rt.alloc(), &site, at, &COVERED, live.as_slice())?;
     assert!(rt; live.as_slice() == [8, 0, 1, 0, 0, 0, 0, 0, 0, 0, 0, 0, 0, 0, 0, 0].as_slice());
     assert!(rt; clean.as_slice() == [4, 5, 6, 7, 8, 9, 10, 11, 12, 13, 14, 15, 16].as_slice());
     Ok(())
