@@ -13,7 +13,8 @@ use Rattle.hl_placed.specs.Blocks.{blocks_of}
 use Rattle.hl_nodes.specs.Pointers.{HasPointerBlock}
 use Rattle.hl_survey.specs.Surveys.{ArePointers}
 
--- the slot holds a segment with a block of such a node at this position, of the most that a segment may have
+-- the slot holds a segment with a block of such a node at this position, of the most that a segment
+-- may have
 pub record HoldsBlock (slot : Slot) (kind : Kind) (position most : ℕ) : Type 0 where
   pub file : kind ≡ File
   pub serial : ℕ
@@ -53,6 +54,7 @@ pub record SpellsPointers (g : Layout) (image : Image) (v : Inode) (block : List
   pub is : HasBlock image v block
 
 -- the pointer block of an inode is in order, and these are its pointers
-pub record HasPointers (g : Layout) (slots : SlotTable) (image : Image) (v : Inode) (pointers : List ℕ) : Type 0 where
+pub record HasPointers (g : Layout) (slots : SlotTable) (image : Image) (v : Inode)
+    (pointers : List ℕ) : Type 0 where
   pub block : HasPointerBlock g image v
   pub are : ArePointers g slots image v pointers

@@ -20,8 +20,8 @@ IsBroken g rec t image rule block = (parts : List Summary) → Breaks g image re
 
 -- the rule is broken at the block, where the number is in use and its inode's block is this one
 abbrev pub BreaksInode : ℕ → ℕ → Image → Rule → ℕ → Type 0
-BreaksInode ino own image rule block = (g : Layout) (t : TableValues) (rec : Record) → IsInUse g t ino
-    → slice_index t.inodes ino ≡ own → IsBroken g rec t image rule block
+BreaksInode ino own image rule block = (g : Layout) (t : TableValues) (rec : Record)
+    → IsInUse g t ino → slice_index t.inodes ino ≡ own → IsBroken g rec t image rule block
 
 -- the rule is broken at the block, where the inode of some number stands at its address
 abbrev pub BreaksPointers : Layout → TableValues → ℕ → Inode → Image → Rule → ℕ → Type 0
@@ -29,7 +29,8 @@ BreaksPointers g t own v image rule block = (rec : Record) (ino : ℕ) → IsIno
     → IsBroken g rec t image rule block
 
 module _ {M : Type 0} where
-  -- Damage is told where what reads gave has it, and a fault where the count rose; memory may be wanting at any time.
+  -- Damage is told where what reads gave has it, and a fault where the count rose; memory may be
+  -- wanting at any time.
   abbrev pub Stops : (M → Option History) → (M → ℕ) → (Image → Rule → ℕ → Type 0) → M → M
       → SurveyStop → Type 0
   Stops history faults Told before now (stop.Damaged block rule) =

@@ -20,9 +20,11 @@ use Rattle.hl_survey.specs.declared.found.FoundInode.{FoundInode}
 
 -- the rules that a survey tries
 abbrev pub IsSurveyRule : Rule → Type 0
-IsSurveyRule rule = (rule ≡ MapEntry) ⊎ ((rule ≡ InodeBytes) ⊎ ((rule ≡ PointerPlace) ⊎ (rule ≡ PointerBlock)))
+IsSurveyRule rule =
+    (rule ≡ MapEntry) ⊎ ((rule ≡ InodeBytes) ⊎ ((rule ≡ PointerPlace) ⊎ (rule ≡ PointerBlock)))
 
--- an entry that the map may have for a number: Nothing or an address in the log, Nothing for number 0, and not for the root
+-- an entry that the map may have for a number: Nothing or an address in the log, Nothing for number 0,
+-- and not for the root
 pub record IsEntry (g : Layout) (ino entry : ℕ) : Type 0 where
   pub zero : ino ≡ 0 → entry ≡ 4294967295
   pub root : ino ≡ 1 → entry ≢ 4294967295
@@ -43,16 +45,19 @@ pub record IsAwayPointer (g : Layout) (slots : SlotTable) (kind : Kind) (pointer
 
 -- a pointer that a node of this kind may have: Nothing, in the log, or away
 abbrev pub IsPointer : Layout → SlotTable → Kind → ℕ → Type 0
-IsPointer g slots kind pointer = (pointer ≡ 4294967295) ⊎ (InLog g pointer ⊎ IsAwayPointer g slots kind pointer)
+IsPointer g slots kind pointer =
+    (pointer ≡ 4294967295) ⊎ (InLog g pointer ⊎ IsAwayPointer g slots kind pointer)
 
 -- the pointers of an inode to the blocks that its size takes, each one that it may have
-pub record ArePointers (g : Layout) (slots : SlotTable) (image : Image) (v : Inode) (pointers : List ℕ) : Type 0 where
+pub record ArePointers (g : Layout) (slots : SlotTable) (image : Image) (v : Inode)
+    (pointers : List ℕ) : Type 0 where
   pub count : length pointers ≡ blocks_of v.size
   pub are : (i : ℕ) → i < blocks_of v.size → slice_index pointers i ≡ pointer_of image v i
   pub may : (i : ℕ) → i < blocks_of v.size → IsPointer g slots v.kind (slice_index pointers i)
 
 -- the inode of a number where the map says, with its pointers; the root is a directory
-pub record IsFoundInode (g : Layout) (image : Image) (t : TableValues) (ino : ℕ) (found : FoundInode) : Type 0 where
+pub record IsFoundInode (g : Layout) (image : Image) (t : TableValues) (ino : ℕ)
+    (found : FoundInode) : Type 0 where
   pub there : IsInodeIn g image t ino found.inode found.address
   pub root : ino ≡ 1 → found.inode.kind ≡ Dir
   pub pointer_block : HasPointerBlock g image found.inode
@@ -70,7 +75,8 @@ pub record IsRootFound (found : List (Option FoundInode)) : Type 0 where
   pub dir : root.inode.kind ≡ Dir
 
 -- the inodes of an image, by their numbers from 0 on: number 0 is free, and the root a directory
-pub record AreSurveyed (g : Layout) (image : Image) (t : TableValues) (found : List (Option FoundInode)) : Type 0 where
+pub record AreSurveyed (g : Layout) (image : Image) (t : TableValues)
+    (found : List (Option FoundInode)) : Type 0 where
   pub count : length found ≡ g.inodes
   pub each : (ino : ℕ) → ino < g.inodes → IsFound g image t ino (slice_index_or found ino None)
   pub zero : slice_index_or found 0 None ≡ None

@@ -1,7 +1,7 @@
 //! What no clause says: that a survey of a hand-made disk succeeds with ample memory, and what it tells of one that breaks
 //! each of the rules.
 
-ghost use Rattle.std.specs.Prelude.{IfOk, length, ◌≡◌, ◌≤◌, ◌∷◌, []};
+ghost use Rattle.std.specs.Prelude.{IfOk, length, ◌≡◌, ◌≤◌};
 ghost use Rattle.hl_addr.specs.Layout.{table_blocks};
 ghost use Rattle.hl_log.specs.Logs.{site_blocks};
 ghost use Rattle.hl_tables.specs.Values.{SameShape, fresh};
@@ -71,8 +71,10 @@ fn image_of(alloc: Global) -> Result<Vec<u8>, AllocError> {
     Ok(image)
 }
 
+#[tactic(auto, unfolding(hl_addr::specs::Layout::table_blocks_of))]
 fn site(alloc: Global) -> Result<Geometry, Fail>
-    ensures { IfOk result (λ g. g ≡ record { k = 64; log = 16; lines = 14; inodes = 512; volumes = 4 ∷ [] }) }
+    ensures blocks { IfOk result (λ g. site_blocks g ≡ 1984) }
+    ensures tables { IfOk result (λ g. table_blocks g ≡ 4) }
 {
     let volumes = Numbers::of([4].to_vec(alloc)?);
     Ok(Geometry::new(64, 16, 14, 512, volumes).ok_or("off the limits")?)
@@ -96,8 +98,8 @@ fn record(alloc: Global) -> Result<Record, AllocError>
 
 /// Says where the inode of a number lies.
 fn enter(tables: &mut Tables, site: &Geometry, entry: (u32, u32))
-    requires { length tables.old.inodes ≡ site.now.inodes }
-    ensures { SameShape tables.old tables.new }
+    requires { SameShape (fresh site.now) tables.old }
+    ensures { SameShape (fresh site.now) tables.new }
 {
     if entry.0 < site.inodes {
         tables.set_inode(entry.0, entry.1);
@@ -114,19 +116,41 @@ fn stage(tables: &mut Tables)
     }
 }
 
-/// Tables in which numbers 1 and 2 are in use, one number has another entry, and a slot is staged.
-fn tables_of(alloc: Global, site: &Geometry, entry: (u32, u32)) -> Result<Tables, AllocError>
+/// Tables in which a slot is staged.
+fn staged(alloc: Global, site: &Geometry) -> Result<Tables, AllocError>
     ensures { IfOk result (λ t. SameShape (fresh site.now) t) }
 {
     let mut tables = Tables::new(alloc, site)?;
-    enter(&mut tables, site, (1, 70));
-    enter(&mut tables, site, (2, 71));
-    enter(&mut tables, site, entry);
     stage(&mut tables);
     Ok(tables)
 }
 
-/// Surveys the site, whose tables have these shapes.
+/// Tables in which numbers 1 and 2 are in use, one number has another entry, and a slot is staged.
+fn tables_of(alloc: Global, site: &Geometry, entry: (u32, u32)) -> Result<Tables, AllocError>
+    ensures { IfOk result (λ t. SameShape (fresh site.now) t) }
+{
+    let mut tables = staged(alloc, site)?;
+    enter(&mut tables, site, (1, 70));
+    enter(&mut tables, site, (2, 71));
+    enter(&mut tables, site, entry);
+    Ok(tables)
+}
+
+/// A disk of the site with these bytes.
+fn disk_of(alloc: Global, image: &[u8]) -> Result<MemMachine, Fail>
+    ensures { IfOk result (λ m. 1984 ≤ m.blocks) }
+{
+    if image.len() != BYTES {
+        return Err("another length")?;
+    }
+    let machine = MemMachine::of_image(alloc, image)?;
+    if machine.blocks() < 1_984 {
+        return Err("too few blocks")?;
+    }
+    Ok(machine)
+}
+
+/// Surveys the site, whose tables have their shapes.
 fn survey_site(
     alloc: Global,
     machine: &mut MemMachine,
@@ -138,10 +162,11 @@ fn survey_site(
     requires blocks { length rec.now.tables ≡ table_blocks site.now }
     requires shape { SameShape (fresh site.now) tables.now }
 {
-    let slots = tables.slots().items().len();
-    if slots == 0 || site.inodes < 2 || tables.inode(0) == 1 {
+    let _ = tables.slots().items();
+    if site.inodes == 0 {
         return Err(SurveyStop::Memory);
     }
+    let _ = tables.inode(0);
     survey(alloc, machine, site, rec, tables)
 }
 
@@ -157,13 +182,7 @@ fn surveyed(
     let tables = tables_of(alloc, &site, entry)?;
     let mut image = image_of(alloc)?;
     put(&mut image, field);
-    if image.len() != BYTES {
-        return Err("another length")?;
-    }
-    let mut machine = MemMachine::of_image(alloc, &image)?;
-    if machine.blocks() < 1_984 {
-        return Err("too few blocks")?;
-    }
+    let mut machine = disk_of(alloc, &image)?;
     machine.fail_call(alloc, fails)?;
     Ok(survey_site(alloc, &mut machine, &site, &rec, &tables))
 }
