@@ -33,7 +33,7 @@ use Rattle.hl_survey.specs.declared.found.FoundInode.{FoundInode}
 use Rattle.hl_survey.specs.Surveys.{AreSurveyed, IsFound, IsFoundInode}
 use Rattle.hl_census.specs.Charging.{found_charge, pointers_charge}
 use Rattle.hl_census.specs.Naming.{is_address}
-use Rattle.hl_census.proofs.Named.{address_some}
+use Rattle.hl_census.proofs.NamedBlocks.{address_some}
 
 -- NUMBERS ONE AFTER THE OTHER
 no_items : {A : Type 0} (es : List A) → length es ≡ 0 → es ≡ []

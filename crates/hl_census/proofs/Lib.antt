@@ -2,7 +2,7 @@ pub mod Pairs
 pub mod Pushing
 pub mod Flags
 pub mod Namings
-pub mod Named
+pub mod NamedBlocks
 pub mod Repeats
 pub mod Shared
 pub mod LiveAddresses

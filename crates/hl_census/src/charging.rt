@@ -1,6 +1,6 @@
 //! What the nodes of a disk are charged.
 
-ghost use Rattle.std.specs.Prelude.{◌≡◌, ◌-◌, ◌^◌, ◌≤◌, ℕ, List, count_by, drop, length, min, sum_by};
+ghost use Rattle.std.specs.Prelude.{◌≡◌, ◌-◌, ◌^◌, ◌<◌, ℕ, List, count_by, drop, length, min, sum_by};
 ghost use Rattle.std.specs.List.{list_any, slice_index_or};
 ghost use Rattle.hl_media.specs.History.{Image};
 ghost use Rattle.hl_super.specs.declared.record.Record.{Record};

@@ -6,7 +6,7 @@ use Rattle.hl_addr.specs.Layout.{IsWithinLimits, Layout}
 use Rattle.hl_tables.specs.Values.{TableValues}
 use Rattle.hl_survey.specs.Surveys.{AreSurveyed}
 use Rattle.hl_census.specs.Naming.{AreNamed, named_addresses}
-use Rattle.hl_census.proofs.Named.{are_named}
+use Rattle.hl_census.proofs.NamedBlocks.{are_named}
 use Rattle.hl_census.proofs.naming.named.Goals as goal
 
 pub returns : goal.returns
