@@ -114,7 +114,7 @@ module _ (g : Layout) (limits : IsWithinLimits g) (image : Image) (rec : Record)
     zeros : slice_index (replicate g.log 0) (segment - 1) ≡ 0
     zeros = get_or-replicate g.log (segment - 1) 0 0 (omega arith)
 
-    size : segment ≤ length (replicate g.log 0)
+    size : segment ≤ length {A = ℕ} (replicate g.log 0)
     size = (let e = length-replicate g.log 0 in omega arith)
 
     -- a number is 0 exactly where no live block lies in the segment
