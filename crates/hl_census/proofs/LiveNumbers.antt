@@ -115,7 +115,7 @@ module _ (g : Layout) (limits : IsWithinLimits g) (image : Image) (rec : Record)
     zeros = get_or-replicate g.log (segment - 1) 0 0 (omega arith)
 
     size : segment ≤ length {A = ℕ} (replicate g.log 0)
-    size = (let e = length-replicate g.log 0 in omega arith)
+    size = subst (λ (n : ℕ). segment ≤ n) (sym (length-replicate g.log 0)) high
 
     -- a number is 0 exactly where no live block lies in the segment
     pub none_live : slice_index live (segment - 1) ≡ 0 → (a : ℕ) → Contains are.addresses a → a / g.k ≢ segment

@@ -13,7 +13,7 @@ returns-clause-live c = λ image rec parts t in_log named apart.
     let limits : IsWithinLimits g = subst (λ (l : Layout). IsWithinLimits l) c.geometry.view_is c.geometry.invariant in
     let counted : c.add_all.new.live ≡ fold (added g.k) (replicate g.log 0) c.args.named.now =
     c.add_all.ensures
-    ∙ ap (λ (l : List ℕ). fold (added c.geometry.inside.k) l c.args.named.now) (c.deref_mut.ensures.value ∙ c.in_ok-live.ensures.items)
+    ∙ ap (λ (l : List ℕ). fold (added c.geometry.inside.k) l c.args.named.now) (c.deref_mut.ensures.value ∙ c.in_ok-live.ensures.items_if_clones_equal (λ y e. e))
     ∙ ap (λ (l : Layout). fold (added l.k) (replicate l.log 0) c.args.named.now) c.geometry.view_is in
     subst (λ (l : List ℕ). AreLive g image rec t l) (sym (with_items_is c.in_ok-live.live c.add_all.new.live (c.add_all.auto.live ∙ c.deref_mut.ensures.len)))
     (live_counted g limits image rec t parts c.args.named.now c.add_all.new.live counted in_log named apart)
