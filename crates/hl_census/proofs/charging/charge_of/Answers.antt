@@ -15,4 +15,4 @@ pub returns-else-has_far : goal.returns-else-has_far
 returns-else-has_far c =
     let count = count_by (is_logged c.args.k c.args.segments) c.args.pointers.now in
     let whole : pointers_charge c.args.k c.args.segments c.args.pointers.now ≡ 1 + count = ap (λ (b : Bool). parts_charge b count) (sym c.has_far.ensures ∙ c.if-has_far.false) in
-    omega (arith, whole, c.count_here-count.ensures, c.saturating_add.ensures)
+    omega (arith, whole, c.count_here-count.ensures, c.saturating_add-else-has_far.ensures)
