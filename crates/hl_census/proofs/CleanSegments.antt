@@ -1,5 +1,5 @@
 -- The clean segments, of those that were found empty.
-use Rattle.std.proofs.Common.{◌≡◌, ◌≢◌, inl, inr, ⊎_elim, ℕ, ◌+◌, ◌-◌, ◌/◌, ◌<◌, ◌≤◌, List, [], ◌∷◌, ◌++◌, length-append, get_or, refl, sym, ◌∙◌, ap, subst, arith}
+use Rattle.std.proofs.Common.{◌≡◌, ◌≢◌, inl, inr, ⊎_elim, ℕ, ◌+◌, ◌<◌, ◌≤◌, List, [], ◌∷◌, ◌++◌, length-append, get_or, refl, sym, ◌∙◌, ap, subst, arith}
 use Rattle.std.specs.Prelude.{AllPairs, Contains, slice_index}
 use Rattle.std.proofs.lemmas.Bool.{cases_eq}
 use Rattle.std.proofs.lemmas.List.Elements.{Contains-append_left, Contains-get_or, Contains-push, Contains-push_cases}
@@ -11,9 +11,6 @@ use Rattle.hl_summary.specs.declared.parts.Summary.{Summary}
 use Rattle.hl_tables.specs.Values.{TableValues}
 use Rattle.hl_log.specs.Free.{AreClean, Once}
 use Rattle.hl_image.specs.declared.place.LogPlace.{LogPlace}
-use Rattle.hl_image.specs.Chain.{Covers}
-use Rattle.hl_image.specs.Newest.{start_of}
-use Rattle.hl_nodes.specs.Live.{IsLive}
 use Rattle.hl_nodes.specs.Rooms.{AreCleanAtMount, IsCleanAtMount}
 use Rattle.hl_nodes.specs.Sound.{head_of}
 use Rattle.hl_census.specs.Clearing.{AreEmptyBelow, IsEmptySegment}

@@ -1,7 +1,7 @@
 -- What inodes that were found are charged is the charge of the image's nodes.
 use Rattle.std.specs.FinMap.{empty, entries, get, get-empty, len-empty, len-entries}
-use Rattle.std.proofs.Common.{◌≡◌, ◌≢◌, inl, inr, ⊎_elim, ℕ, zero, suc, ◌+◌, ◌*◌, ◌-◌, ◌^◌, ◌<◌, ◌≤◌, min, Bool, true, false, not, ◌||◌, cond, List, [], ◌∷◌, length, drop, take, get_or, refl, sym, ◌∙◌, ap, subst, arith, length-drop}
-use Rattle.std.specs.Prelude.{All, count_by, slice_index, sum_by, Option, Some, None}
+use Rattle.std.proofs.Common.{◌≡◌, inl, inr, ℕ, zero, suc, ◌+◌, ◌*◌, ◌-◌, ◌^◌, ◌<◌, ◌≤◌, min, Bool, true, false, not, ◌||◌, cond, List, [], ◌∷◌, length, drop, take, get_or, refl, sym, ◌∙◌, ap, subst, arith, length-drop}
+use Rattle.std.specs.Prelude.{count_by, slice_index, sum_by, Option, Some, None}
 use Rattle.std.specs.List.{list_any, slice_index_or}
 use Rattle.std.specs.Ordering.{nat_cmp}
 use Rattle.std.proofs.lemmas.Bool.{cases_eq, eq-eqb, false_from_ne_true}
@@ -18,8 +18,7 @@ use Rattle.hl_placed.specs.Blocks.{Away, Block, Here, Hole, blocks_of, is_here, 
 use Rattle.hl_placed.specs.Charges.{blocks_charge, parts_charge}
 use Rattle.hl_paths.specs.Nodes.{FlatNode, Nodes, flat_charge}
 use Rattle.hl_nodes.specs.Blocks.{StandsFor}
-use Rattle.hl_nodes.specs.Pointers.{pointer_of}
-use Rattle.hl_nodes.specs.Nodes.{HasNodes, IsInodeAt, IsMapEntry, IsNodeAt, IsNodeOf}
+use Rattle.hl_nodes.specs.Nodes.{HasNodes, IsMapEntry, IsNodeAt, IsNodeOf}
 use Rattle.hl_nodes.proofs.Determined.{far_some}
 use Rattle.hl_nodes.proofs.Frame.{one_inode}
 use Rattle.hl_nodes.proofs.NodesMade.{most_blocks}

@@ -1,14 +1,10 @@
 pub mod Pairs
-pub mod Pushing
-pub mod Flags
 pub mod Namings
 pub mod NamedBlocks
 pub mod Repeats
 pub mod Shared
 pub mod LiveAddresses
 pub mod UsedSegments
-pub mod Strays
 pub mod LiveNumbers
 pub mod CleanSegments
 pub mod FoundCharges
-pub mod FoundUses

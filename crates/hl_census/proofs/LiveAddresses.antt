@@ -1,5 +1,5 @@
 -- The live ones of the addresses that are named.
-use Rattle.std.proofs.Common.{◌≡◌, ◌≢◌, ◌⊎◌, inl, inr, ℕ, Bool, true, false, List, [], ◌∷◌, refl, sym, ◌∙◌, ap, subst, arith, if◌then◌else◌}
+use Rattle.std.proofs.Common.{◌≡◌, ◌⊎◌, inl, inr, ℕ, Bool, true, false, List, [], ◌∷◌, refl, sym, ◌∙◌, ap, subst, arith, if◌then◌else◌}
 use Rattle.std.specs.Prelude.{Contains, filter, slice_index, ◌↔◌, None}
 use Rattle.hl_media.specs.History.{Image}
 use Rattle.hl_addr.specs.Layout.{IsWithinLimits, Layout}
@@ -9,16 +9,16 @@ use Rattle.hl_tables.specs.Values.{TableValues}
 use Rattle.hl_log.specs.Free.{Once}
 use Rattle.hl_image.specs.Places.{InLog}
 use Rattle.hl_nodes.specs.declared.rule.Rule.TheVariants.{SharedBlock}
-use Rattle.hl_nodes.specs.Live.{HasAddress, IsLive, IsLiveAt, IsNamedAt, IsNodeBlock, LiesAt, LiveBlock, NodeBlock, PointsAt}
+use Rattle.hl_nodes.specs.Live.{IsLive, IsLiveAt, IsNamedAt, LiesAt, LiveBlock, NodeBlock, PointsAt}
 use Rattle.hl_nodes.specs.Live.LiveBlock.{OfNode, Table}
 use Rattle.hl_nodes.specs.Live.NodeBlock.{Content, Own, Pointers}
 use Rattle.hl_nodes.proofs.Membership.{first_or_later, head_in, tail_in}
 use Rattle.hl_nodes.proofs.PointerLemmas.{in_log-some}
 use Rattle.hl_tally.specs.Counting.{is_logged}
 use Rattle.hl_tally.proofs.Segments.{in_logged, logged_in}
-use Rattle.hl_census.specs.Naming.{AreNamed, LieInLog, Naming}
+use Rattle.hl_census.specs.Naming.{AreNamed, LieInLog}
 use Rattle.hl_census.specs.Telling.{Tells}
-use Rattle.hl_census.proofs.Namings.{address_of, naming}
+use Rattle.hl_census.proofs.Namings.{naming}
 use Rattle.hl_census.proofs.Shared.{address_in, found_in, once_of}
 
 -- WHAT PASSES A TEST

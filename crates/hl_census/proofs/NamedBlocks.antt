@@ -1,6 +1,6 @@
 -- What is named of an image that was surveyed.
-use Rattle.std.proofs.Common.{◌≡◌, ◌≢◌, true≢false, ⊎_elim, ℕ, zero, suc, ◌<◌, ◌++◌, true, List, [], ◌∷◌, length, refl, sym, ◌∙◌, ap, subst, not, arith}
-use Rattle.std.specs.Prelude.{◌==◌, Contains, slice_index, Option, Some, None}
+use Rattle.std.proofs.Common.{◌≡◌, ◌≢◌, true≢false, ⊎_elim, ℕ, zero, suc, ◌<◌, true, List, ◌∷◌, length, refl, sym, ◌∙◌, ap, subst, not, arith}
+use Rattle.std.specs.Prelude.{Contains, slice_index, Option, Some, None}
 use Rattle.std.specs.List.{slice_index_or}
 use Rattle.std.proofs.lemmas.Bool.{eq-eqb, ne_eqb}
 use Rattle.std.proofs.lemmas.List.Elements.{Contains-append_left, Contains-append_right}
@@ -10,7 +10,6 @@ use Rattle.hl_super.specs.declared.record.Record.{Record}
 use Rattle.hl_tables.specs.Values.{TableValues}
 use Rattle.hl_inode.specs.declared.inode.Inode.{Inode}
 use Rattle.hl_placed.specs.Blocks.{blocks_of}
-use Rattle.hl_nodes.specs.Pointers.{pointer_of}
 use Rattle.hl_nodes.specs.Nodes.{IsInodeAt}
 use Rattle.hl_nodes.specs.Live.{HasAddress, IsNamedAt, LiveBlock, NodeBlock, PointsAt}
 use Rattle.hl_nodes.specs.Live.LiveBlock.{OfNode, Table}

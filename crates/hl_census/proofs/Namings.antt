@@ -9,7 +9,7 @@ use Rattle.hl_nodes.specs.Live.LiveBlock.{OfNode, Table}
 use Rattle.hl_nodes.specs.Live.NodeBlock.{Content, Own, Pointers}
 use Rattle.hl_nodes.proofs.Membership.{first_or_later, head_in, tail_in, in_append}
 use Rattle.hl_survey.specs.declared.found.FoundInode.{FoundInode}
-use Rattle.hl_census.specs.Naming.{Naming, found_addresses, inode_addresses, is_address, named_addresses}
+use Rattle.hl_census.specs.Naming.{Naming, found_addresses, is_address, named_addresses}
 use Rattle.hl_census.proofs.Pairs.{pairs_append, pairs_cons, pairs_nil}
 
 abbrev pub naming : LiveBlock → ℕ → Naming

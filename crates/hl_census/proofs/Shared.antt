@@ -1,5 +1,5 @@
 -- An address that is named twice, and the blocks that share it.
-use Rattle.std.proofs.Common.{◌≡◌, ◌≢◌, inl, inr, ⊎_elim, ℕ, ◌+◌, ◌≤◌, List, [], ◌∷◌, map, refl, sym, ◌∙◌, ap, subst, arith}
+use Rattle.std.proofs.Common.{◌≡◌, ◌≢◌, inl, inr, ℕ, ◌≤◌, List, [], ◌∷◌, map, refl, sym, ◌∙◌, ap, subst, arith}
 use Rattle.std.specs.Prelude.{AllPairs, Contains, Option, Some, None}
 use Rattle.std.proofs.lemmas.Bool.{cases_eq}
 use Rattle.hl_media.specs.History.{Image}
@@ -9,7 +9,7 @@ use Rattle.hl_summary.specs.declared.parts.Summary.{Summary}
 use Rattle.hl_tables.specs.Values.{TableValues}
 use Rattle.hl_log.specs.Free.{Once}
 use Rattle.hl_nodes.specs.declared.rule.Rule.TheVariants.{SharedBlock}
-use Rattle.hl_nodes.specs.Live.{IsNamedAt, LiveBlock}
+use Rattle.hl_nodes.specs.Live.{IsNamedAt}
 use Rattle.hl_nodes.proofs.Membership.{first_or_later, head_in, tail_in}
 use Rattle.hl_census.specs.Naming.{AreNamed, Naming}
 use Rattle.hl_census.specs.Sharing.{TellsTwice, times}

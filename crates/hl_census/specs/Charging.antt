@@ -1,5 +1,5 @@
 -- What inodes that were found are charged.
-use Rattle.std.specs.Prelude.{ℕ, ◌==◌, not, List, count_by, drop, Option, Some, None, sum_by}
+use Rattle.std.specs.Prelude.{ℕ, List, count_by, drop, Option, Some, None}
 use Rattle.std.specs.List.{list_any}
 use Rattle.hl_placed.specs.Charges.{parts_charge}
 use Rattle.hl_tally.specs.Counting.{is_logged}

@@ -6,4 +6,3 @@ pub mod Living
 pub mod Straying
 pub mod Clearing
 pub mod Charging
-pub mod LastUses

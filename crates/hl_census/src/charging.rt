@@ -3,17 +3,13 @@
 ghost use Rattle.std.specs.Prelude.{◌≡◌, ◌-◌, ◌^◌, ◌<◌, ℕ, List, count_by, drop, length, min, sum_by};
 ghost use Rattle.std.specs.List.{list_any, slice_index_or};
 ghost use Rattle.hl_media.specs.History.{Image};
-ghost use Rattle.hl_super.specs.declared.record.Record.{Record};
-ghost use Rattle.hl_summary.specs.declared.parts.Summary.{Summary};
 ghost use Rattle.hl_tables.specs.Values.{TableValues};
 ghost use Rattle.hl_paths.specs.Nodes.{Nodes, flat_charge};
 ghost use Rattle.hl_nodes.specs.Nodes.{HasNodes};
-ghost use Rattle.hl_nodes.specs.declared.rule.Rule.TheVariants.{Quota};
 ghost use Rattle.hl_survey.specs.Surveys.{AreSurveyed};
 ghost use Rattle.hl_tally.specs.Counting.{is_logged};
 ghost use Rattle.hl_census.specs.Charging.{found_charge, pointers_charge};
 ghost use Rattle.hl_census.specs.Naming.{is_address};
-ghost use Rattle.hl_census.specs.Telling.{Tells};
 
 use crate::logged::is_logged;
 use hl_addr::{Geometry, NOTHING};
@@ -90,17 +86,4 @@ pub fn charge(geometry: &Geometry, found: &[Option<FoundInode>]) -> u32
         → result ≡ flat_charge nodes }
 {
     charge_found(geometry.k, geometry.log as usize, found)
-}
-
-/// Block 0 where the charge of a disk's nodes is above the quota of the site, and else none.
-pub fn over_quota(geometry: &Geometry, charge: u32) -> Option<u32>
-    ensures { (image : Image) (rec : Record) (parts : List Summary) (t : TableValues)
-        (nodes : Nodes) → HasNodes geometry.now image t nodes → charge ≡ flat_charge nodes
-        → Tells geometry.now image rec parts t Quota result }
-{
-    if geometry.quota() < charge {
-        Some(0)
-    } else {
-        None
-    }
 }

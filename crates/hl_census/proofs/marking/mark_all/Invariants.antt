@@ -1,8 +1,0 @@
-use Rattle.std.proofs.Common.{◌≡◌, ◌⊎◌, ℕ, ◌/◌, ◌<◌, length}
-use Rattle.std.specs.Prelude.{◌↔◌, slice_index}
-use Rattle.hl_census.specs.Straying.{IsSet}
-use Rattle.hl_census.proofs.marking.mark_all.Given as goal
-
-abbrev pub invariant-addresses : goal.invariant-addresses
-invariant-addresses l = (seg : ℕ) → seg < length l.fn.flags
-    → IsSet l.flags seg ↔ (IsSet l.fn.flags seg ⊎ ((j : ℕ) × (j < l.i) × (slice_index l.addresses j / l.k ≡ seg)))
