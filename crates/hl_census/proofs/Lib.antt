@@ -8,3 +8,4 @@ pub mod UsedSegments
 pub mod LiveNumbers
 pub mod CleanSegments
 pub mod FoundCharges
+pub mod FoundUses

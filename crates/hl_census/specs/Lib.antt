@@ -6,3 +6,4 @@ pub mod Living
 pub mod Straying
 pub mod Clearing
 pub mod Charging
+pub mod LastUses

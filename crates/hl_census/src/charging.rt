@@ -10,6 +10,10 @@ ghost use Rattle.hl_survey.specs.Surveys.{AreSurveyed};
 ghost use Rattle.hl_tally.specs.Counting.{is_logged};
 ghost use Rattle.hl_census.specs.Charging.{found_charge, pointers_charge};
 ghost use Rattle.hl_census.specs.Naming.{is_address};
+ghost use Rattle.hl_super.specs.declared.record.Record.{Record};
+ghost use Rattle.hl_summary.specs.declared.parts.Summary.{Summary};
+ghost use Rattle.hl_nodes.specs.declared.rule.Rule.TheVariants.{Quota};
+ghost use Rattle.hl_census.specs.Telling.{Tells};
 
 use crate::logged::is_logged;
 use hl_addr::{Geometry, NOTHING};
@@ -86,4 +90,19 @@ pub fn charge(geometry: &Geometry, found: &[Option<FoundInode>]) -> u32
         → result ≡ flat_charge nodes }
 {
     charge_found(geometry.k, geometry.log as usize, found)
+}
+
+/// Block 0 where the charge of a disk's nodes is above the quota of the site, and else none.
+pub fn over_quota(geometry: &Geometry, charge: u32) -> Option<u32>
+    ensures { (image : Image) (rec : Record) (parts : List Summary) (t : TableValues)
+        (nodes : Nodes) → HasNodes geometry.now image t nodes → charge ≡ flat_charge nodes
+        → Tells geometry.now image rec parts t Quota result }
+{
+    // A site is within its limits, by its type.
+    let _inodes = geometry.inodes;
+    if geometry.quota() < charge {
+        Some(0)
+    } else {
+        None
+    }
 }

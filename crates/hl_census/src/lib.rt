@@ -1,17 +1,19 @@
 //! What is counted of the inodes of a disk, once they were found: the addresses that its tables and nodes name, the live
-//! blocks of each log segment, the charge and the clean segments; and the rule that no block is shared (`docs/FORMATS.md`,
-//! "The rules of a mount"). Nothing here reads a disk.
+//! blocks of each log segment, the charge, the last uses and the clean segments; and the rules of a mount that no block is
+//! shared and that the charge is within the quota (`docs/FORMATS.md`, "The rules of a mount"). Nothing here reads a disk.
 #![tactic(auto)]
 
 mod charging;
 mod clearing;
+mod last_uses;
 mod logged;
 mod naming;
 mod numbers;
 mod sharing;
 
-pub use charging::charge;
+pub use charging::{charge, over_quota};
 pub use clearing::clean;
+pub use last_uses::uses;
 pub use naming::named;
 pub use numbers::live;
 pub use sharing::shared_block;
