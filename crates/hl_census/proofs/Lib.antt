@@ -9,3 +9,5 @@ pub mod LiveNumbers
 pub mod CleanSegments
 pub mod FoundCharges
 pub mod FoundUses
+pub mod Flags
+pub mod Strays
