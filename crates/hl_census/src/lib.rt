@@ -1,6 +1,7 @@
 //! What is counted of the inodes of a disk, once they were found: the addresses that its tables and nodes name, the live
 //! blocks of each log segment, the charge, the last uses and the clean segments; and the rules of a mount that no block is
-//! shared, that none strays and that the charge is within the quota (`docs/FORMATS.md`, "The rules of a mount"). Nothing here reads a disk.
+//! shared, that none strays and that the charge is within the quota (`docs/FORMATS.md`, "The rules of a mount"). Nothing
+//! here reads a disk.
 #![tactic(auto)]
 
 mod charging;
