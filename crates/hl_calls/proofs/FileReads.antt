@@ -78,6 +78,7 @@ module _ {M : Type 0} {history : M → Option History} {blocks faults write_faul
       holds = holds_before is.tseg serial is.holds;
       line = is.line;
       held = line_before is.tseg (Some is.line) is.held;
+      within = subst (λ (x : StoreValue M). position < (layout x).k) behind.reads.same is.within;
       bytes_are = subst (λ (x : StoreValue M). s.content (line_start (layout x) is.line + position) ≡ bytes) behind.reads.same is.bytes_are;
     })
 

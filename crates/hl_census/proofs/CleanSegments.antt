@@ -14,7 +14,7 @@ use Rattle.hl_image.specs.declared.place.LogPlace.{LogPlace}
 use Rattle.hl_nodes.specs.Rooms.{AreCleanAtMount, IsCleanAtMount}
 use Rattle.hl_nodes.specs.Sound.{head_of}
 use Rattle.hl_census.specs.Clearing.{AreEmptyBelow, IsEmptySegment}
-use Rattle.hl_census.specs.Covering.{IsCovered}
+use Rattle.hl_nodes.specs.Covering.{IsCovered}
 use Rattle.hl_census.specs.Living.{AreLive}
 use Rattle.hl_census.proofs.LiveNumbers.{live_none, none_live}
 use Rattle.hl_census.proofs.Pairs.{pairs_head, pairs_nil, pairs_tail}

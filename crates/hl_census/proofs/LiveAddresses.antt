@@ -17,7 +17,7 @@ use Rattle.hl_nodes.proofs.PointerLemmas.{in_log-some}
 use Rattle.hl_tally.specs.Counting.{is_logged}
 use Rattle.hl_tally.proofs.Segments.{in_logged, logged_in}
 use Rattle.hl_census.specs.Naming.{AreNamed, LieInLog}
-use Rattle.hl_census.specs.Telling.{Tells}
+use Rattle.hl_nodes.specs.Telling.{TellsBroken}
 use Rattle.hl_census.proofs.Namings.{naming}
 use Rattle.hl_census.proofs.Shared.{address_in, found_in, once_of}
 
@@ -103,6 +103,6 @@ module _ (g : Layout) (image : Image) (rec : Record) (t : TableValues) where
         λ live. (let at = of_live a live in kept_from (is_logged g.k g.log) addresses a at.0 (in_logged g a at.1)),
       )
 
-      pub lives_once : (parts : List Summary) → Tells g image rec parts t SharedBlock None → Once lives
+      pub lives_once : (parts : List Summary) → TellsBroken g image rec parts t SharedBlock None → Once lives
       lives_once parts none = kept_once (is_logged g.k g.log) addresses (subst Once (sym named.are) (once_of named.namings named.once (λ p q l r ne same.
           none q.address (p.block, q.block, ne, subst (IsNamedAt g image rec t p.block) same ((named.each p).0 l), (named.each q).0 r))))

@@ -15,7 +15,7 @@ use Rattle.hl_tally.specs.Counting.{added, is_logged}
 use Rattle.hl_tally.proofs.Segments.{logged_within, within_logged}
 use Rattle.hl_census.specs.Living.{AreLive}
 use Rattle.hl_census.specs.Naming.{AreNamed, LieInLog}
-use Rattle.hl_census.specs.Telling.{Tells}
+use Rattle.hl_nodes.specs.Telling.{TellsBroken}
 use Rattle.hl_census.proofs.LiveAddresses.{lives_each, lives_once}
 
 module _ (k : ℕ) where
@@ -102,7 +102,7 @@ module _ (k : ℕ) where
 -- THE LIVE NUMBERS OF AN IMAGE
 module _ (g : Layout) (limits : IsWithinLimits g) (image : Image) (rec : Record) (t : TableValues) where
   pub live_counted : (parts : List Summary) (addresses live : List ℕ) → live ≡ fold (added g.k) (replicate g.log 0) addresses → LieInLog g rec.tables → AreNamed g image rec t addresses
-      → Tells g image rec parts t SharedBlock None → AreLive g image rec t live
+      → TellsBroken g image rec parts t SharedBlock None → AreLive g image rec t live
   live_counted parts addresses live is in_log named apart = record {
     addresses = filter (is_logged g.k g.log) addresses;
     each = lives_each g image rec t limits in_log addresses named;

@@ -13,7 +13,7 @@ use Rattle.hl_nodes.specs.Live.{IsNamedAt}
 use Rattle.hl_nodes.proofs.Membership.{first_or_later, head_in, tail_in}
 use Rattle.hl_census.specs.Naming.{AreNamed, Naming}
 use Rattle.hl_census.specs.Sharing.{TellsTwice, times}
-use Rattle.hl_census.specs.Telling.{Tells}
+use Rattle.hl_nodes.specs.Telling.{TellsBroken}
 use Rattle.hl_census.proofs.Namings.{Apart, address_of, naming}
 use Rattle.hl_census.proofs.Pairs.{pairs_head, pairs_tail}
 use Rattle.hl_census.proofs.Repeats.{times-same, times-other, times-more}
@@ -90,7 +90,7 @@ two_of (n ∷ ns) a once two = elim (cases_eq n.address a) [
 
 module _ (g : Layout) (image : Image) (rec : Record) (parts : List Summary) (t : TableValues) (addresses : List ℕ) (named : AreNamed g image rec t addresses) where
   -- what stands twice among the addresses is shared, and where none does none is
-  pub shared_told : (told : Option ℕ) → TellsTwice addresses told → Tells g image rec parts t SharedBlock told
+  pub shared_told : (told : Option ℕ) → TellsTwice addresses told → TellsBroken g image rec parts t SharedBlock told
   shared_told None few = λ address broken.
       let x = broken.0 in
       let y = broken.1 in

@@ -16,10 +16,10 @@ use Rattle.hl_nodes.specs.declared.rule.Rule.TheVariants.{StrayBlock}
 use Rattle.hl_nodes.specs.Sound.{IsAhead, head_of}
 use Rattle.hl_tally.proofs.Segments.{in_logged, logged_within}
 use Rattle.hl_tally.proofs.UnitLaws.{most_segment}
-use Rattle.hl_census.specs.Covering.{IsCovered}
+use Rattle.hl_nodes.specs.Covering.{IsCovered}
 use Rattle.hl_census.specs.Naming.{AreNamed, LieInLog}
 use Rattle.hl_census.specs.Straying.{AreUsed, TellsAhead, TellsStray}
-use Rattle.hl_census.specs.Telling.{Tells}
+use Rattle.hl_nodes.specs.Telling.{TellsBroken}
 use Rattle.hl_census.proofs.LiveAddresses.{live_of, of_live}
 use Rattle.hl_census.proofs.UsedSegments.{before, lies_in, place_in}
 
@@ -72,7 +72,7 @@ module _ (g : Layout) (limits : IsWithinLimits g) (image : Image) (rec : Record)
   head_ahead a = λ ahead. subst (λ (p : LogPlace). IsAhead g p a) (sym head) ahead
 
   -- a named address that strays
-  pub named_told : (a : ℕ) → TellsStray g at used addresses (Some a) → Tells g image rec parts t StrayBlock (Some a)
+  pub named_told : (a : ℕ) → TellsStray g at used addresses (Some a) → TellsBroken g image rec parts t StrayBlock (Some a)
   named_told a told =
       let stray = told.1 in
       let live = live_of g image rec t limits in_log addresses named a told.0 stray.in_log in
@@ -82,7 +82,7 @@ module _ (g : Layout) (limits : IsWithinLimits g) (image : Image) (rec : Record)
       stray.strays
 
   -- where none strays, a block of the chain that is ahead, or none
-  pub parts_told : TellsStray g at used addresses None → (told : Option ℕ) → TellsAhead g at (start_of rec) parts told → Tells g image rec parts t StrayBlock told
+  pub parts_told : TellsStray g at used addresses None → (told : Option ℕ) → TellsAhead g at (start_of rec) parts told → TellsBroken g image rec parts t StrayBlock told
   parts_told none (Some b) ahead = inr (inr ahead.0, ahead_head b ahead.1)
   parts_told none None never = λ a broken. ⊎_elim
       (λ unused.

@@ -12,7 +12,7 @@ use Rattle.hl_image.specs.declared.place.LogPlace.{LogPlace}
 use Rattle.hl_image.specs.Chain.{Covers}
 use Rattle.hl_image.specs.Newest.{start_of}
 use Rattle.hl_nodes.specs.Sound.{IsUsed, head_of}
-use Rattle.hl_census.specs.Covering.{IsCovered}
+use Rattle.hl_nodes.specs.Covering.{IsCovered}
 use Rattle.hl_census.specs.Straying.{AreUsed, HaveOneIn, IsHeld, IsSet}
 
 module _ (g : Layout) (limits : IsWithinLimits g) where

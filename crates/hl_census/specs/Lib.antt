@@ -1,5 +1,3 @@
-pub mod Telling
-pub mod Covering
 pub mod Naming
 pub mod Sharing
 pub mod Living

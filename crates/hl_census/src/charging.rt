@@ -13,7 +13,7 @@ ghost use Rattle.hl_census.specs.Naming.{is_address};
 ghost use Rattle.hl_super.specs.declared.record.Record.{Record};
 ghost use Rattle.hl_summary.specs.declared.parts.Summary.{Summary};
 ghost use Rattle.hl_nodes.specs.declared.rule.Rule.TheVariants.{Quota};
-ghost use Rattle.hl_census.specs.Telling.{Tells};
+ghost use Rattle.hl_nodes.specs.Telling.{TellsBroken};
 
 use crate::logged::is_logged;
 use hl_addr::{Geometry, NOTHING};
@@ -96,7 +96,7 @@ pub fn charge(geometry: &Geometry, found: &[Option<FoundInode>]) -> u32
 pub fn over_quota(geometry: &Geometry, charge: u32) -> Option<u32>
     ensures { (image : Image) (rec : Record) (parts : List Summary) (t : TableValues)
         (nodes : Nodes) → HasNodes geometry.now image t nodes → charge ≡ flat_charge nodes
-        → Tells geometry.now image rec parts t Quota result }
+        → TellsBroken geometry.now image rec parts t Quota result }
 {
     // A site is within its limits, by its type.
     let _inodes = geometry.inodes;

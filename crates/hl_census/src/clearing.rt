@@ -10,7 +10,7 @@ ghost use Rattle.hl_tables.specs.Values.{TableValues};
 ghost use Rattle.hl_nodes.specs.Sound.{head_of};
 ghost use Rattle.hl_nodes.specs.Rooms.{AreCleanAtMount};
 ghost use Rattle.hl_census.specs.Clearing.{AreEmptyBelow, IsEmptySegment};
-ghost use Rattle.hl_census.specs.Covering.{IsCovered};
+ghost use Rattle.hl_nodes.specs.Covering.{IsCovered};
 ghost use Rattle.hl_census.specs.Living.{AreLive};
 
 use hl_addr::Geometry;

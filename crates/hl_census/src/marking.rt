@@ -5,7 +5,7 @@ ghost use Rattle.std.specs.List.{slice_index_or};
 ghost use Rattle.hl_addr.specs.Layout.{IsWithinLimits};
 ghost use Rattle.hl_summary.specs.declared.parts.Summary.{Summary};
 ghost use Rattle.hl_nodes.specs.Sound.{IsMarked, head_of};
-ghost use Rattle.hl_census.specs.Covering.{IsCovered};
+ghost use Rattle.hl_nodes.specs.Covering.{IsCovered};
 ghost use Rattle.hl_census.specs.Straying.{AreUsed, HaveOneIn, IsHeld, IsSet};
 
 use hl_addr::Geometry;

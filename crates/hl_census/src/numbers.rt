@@ -10,7 +10,7 @@ ghost use Rattle.hl_nodes.specs.declared.rule.Rule.TheVariants.{SharedBlock};
 ghost use Rattle.hl_tally.specs.Counting.{added};
 ghost use Rattle.hl_census.specs.Living.{AreLive};
 ghost use Rattle.hl_census.specs.Naming.{AreNamed, LieInLog};
-ghost use Rattle.hl_census.specs.Telling.{Tells};
+ghost use Rattle.hl_nodes.specs.Telling.{TellsBroken};
 
 use crate::logged::is_logged;
 use hl_addr::Geometry;
@@ -43,7 +43,7 @@ pub fn live(alloc: Global, geometry: &Geometry, named: &[u32]) -> Result<Vec<u32
     ensures live { IfOk result (λ live. (image : Image) (rec : Record) (parts : List Summary)
         (t : TableValues) → LieInLog geometry.now rec.tables
         → AreNamed geometry.now image rec t named.now
-        → Tells geometry.now image rec parts t SharedBlock None
+        → TellsBroken geometry.now image rec parts t SharedBlock None
         → AreLive geometry.now image rec t live.items) }
 {
     let mut live = vec![in alloc; 0; geometry.log as usize]?;

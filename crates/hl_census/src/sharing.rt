@@ -10,7 +10,7 @@ ghost use Rattle.hl_tables.specs.Values.{TableValues};
 ghost use Rattle.hl_nodes.specs.declared.rule.Rule.TheVariants.{SharedBlock};
 ghost use Rattle.hl_census.specs.Naming.{AreNamed};
 ghost use Rattle.hl_census.specs.Sharing.{TellsTwice};
-ghost use Rattle.hl_census.specs.Telling.{Tells};
+ghost use Rattle.hl_nodes.specs.Telling.{TellsBroken};
 
 use std::alloc::{AllocError, Global};
 
@@ -40,7 +40,7 @@ fn repeated(alloc: Global, numbers: &[u32]) -> Result<Option<u32>, AllocError>
 pub fn shared_block(alloc: Global, named: &[u32]) -> Result<Option<u32>, AllocError>
     ensures { IfOk result (λ told. (g : Layout) (image : Image) (rec : Record)
         (parts : List Summary) (t : TableValues)
-        → AreNamed g image rec t named.now → Tells g image rec parts t SharedBlock told) }
+        → AreNamed g image rec t named.now → TellsBroken g image rec parts t SharedBlock told) }
 {
     repeated(alloc, named)
 }

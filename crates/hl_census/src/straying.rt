@@ -8,10 +8,10 @@ ghost use Rattle.hl_image.specs.Places.{IsLogPlace};
 ghost use Rattle.hl_image.specs.Newest.{start_of};
 ghost use Rattle.hl_nodes.specs.Sound.{IsAhead, head_of};
 ghost use Rattle.hl_nodes.specs.declared.rule.Rule.TheVariants.{StrayBlock};
-ghost use Rattle.hl_census.specs.Covering.{IsCovered};
+ghost use Rattle.hl_nodes.specs.Covering.{IsCovered};
 ghost use Rattle.hl_census.specs.Naming.{AreNamed, LieInLog};
 ghost use Rattle.hl_census.specs.Straying.{IsStray, TellsAhead, TellsStray};
-ghost use Rattle.hl_census.specs.Telling.{Tells};
+ghost use Rattle.hl_nodes.specs.Telling.{TellsBroken};
 
 use crate::logged::is_logged;
 use crate::marking::used_segments;
@@ -87,7 +87,7 @@ pub fn stray_block(
         → at ≡ head_of rec.now parts → IsCovered geometry.now rec.now parts covered.now
         → LieInLog geometry.now rec.now.tables
         → AreNamed geometry.now image rec.now tables.now named.now
-        → Tells geometry.now image rec.now parts tables.now StrayBlock told) }
+        → TellsBroken geometry.now image rec.now parts tables.now StrayBlock told) }
 {
     let used = used_segments(alloc, geometry, rec, tables, at, covered)?;
     match stray_among(geometry, at, used.as_slice(), named) {

@@ -1,5 +1,5 @@
 -- What is found of files and lines behind reads, before them.
-use Rattle.std.proofs.Common.{◌≡◌, ℕ, ◌+◌, List, [], ◌∷◌, Option, Some, None, ◌∙◌, ap, subst}
+use Rattle.std.proofs.Common.{◌≡◌, ℕ, ◌+◌, ◌<◌, List, [], ◌∷◌, Option, Some, None, ◌∙◌, ap, subst}
 use Rattle.std.specs.List.{fold}
 use Rattle.hl_media.specs.History.{History, MachineState, state_now}
 use Rattle.hl_media.specs.Moments.{Runs}
@@ -61,6 +61,7 @@ module _ {M : Type 0} (old v : StoreValue M) (slots : v.tables.slots ≡ old.tab
     holds = holds_still is.tseg serial is.holds;
     line = is.line;
     held = line_still is.tseg (Some is.line) is.held;
+    within = subst (λ (g : Layout). position < g.k) same is.within;
     bytes_are = subst (λ (g : Layout). s.content (line_start g is.line + position) ≡ bytes) same is.bytes_are;
   })
 

@@ -78,8 +78,10 @@ fn write_piece<M: Machine>(
     write_part(machine, geometry, log, piece.next, bytes)
 }
 
-/// Whether there are clean segments enough for so many blocks and table records.
-pub(crate) fn has_clean(
+/// Whether the clean segments, which lie apart and none of which is the head's, are enough for so many blocks and so many
+/// table records of a batch that is cut from the head on: what [`Log::has_clean`](crate::Log::has_clean) tells, before a log
+/// is open. Nothing is read.
+pub fn has_clean(
     geometry: &Geometry,
     head: LogPlace,
     blocks: usize,

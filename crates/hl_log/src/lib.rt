@@ -13,5 +13,6 @@ mod position;
 mod unit;
 mod writing;
 
+pub use batch::has_clean;
 pub use log::Log;
 pub use unit::{Unit, UnitAnswer};

@@ -21,3 +21,5 @@ pub mod LiveNumbers
 pub mod Listing
 pub mod Order
 pub mod AwayListing
+pub mod Covering
+pub mod Telling

@@ -91,7 +91,7 @@ module _ {M : Type 0} where
     shows_still s shelf shows = subst (λ (v : StoreValue M). LinesShow v s shelf) (sym reads.same) shows'
       where
         shows' : LinesShow (record old { log = with_machine old.log new.log.machine; overlay = new.overlay }) s shelf
-        shows' serial position bytes held = shows serial position bytes (record { tseg = held.tseg; holds = held.holds; line = held.line; held = held.held; bytes_are = held.bytes_are })
+        shows' serial position bytes held = shows serial position bytes (record { tseg = held.tseg; holds = held.holds; line = held.line; held = held.held; within = held.within; bytes_are = held.bytes_are })
 
     -- what holds of a file behind reads held before them
     pub of_file_before : (ino : ℕ) (P : Contents → Shelf → PlacedFile → Type 0) → Runs (history old.log.machine) (history new.log.machine) IsUnchanged → OfFile history new ino P → OfFile history old ino P

@@ -50,6 +50,7 @@ module _ {M : Type 0} {history : M → Option History} where
       holds = holds_before is.tseg serial is.holds;
       line = is.line;
       held = line_before is.tseg (Some is.line) is.held;
+      within = subst (λ (x : StoreValue M). position < (layout x).k) reads.same is.within;
       bytes_are = subst (λ (x : StoreValue M). s.content (line_start (layout x) is.line + position) ≡ bytes) reads.same is.bytes_are;
     })
 

@@ -14,7 +14,8 @@ use Rattle.hl_image.specs.Chain.{Covers, placed}
 use Rattle.hl_image.proofs.ChainLemmas.{apart}
 use Rattle.hl_nodes.specs.Tables.{raised, parts_raised}
 use Rattle.hl_recovery.specs.Chains.{AreSummaries}
-use Rattle.hl_recovery.specs.Covering.{IsCoveredTo, reach}
+use Rattle.hl_nodes.specs.Covering.{IsCoveredTo}
+use Rattle.hl_recovery.specs.Covering.{reach}
 
 module _ (g : Layout) (seg : ℕ) where
   -- from where a reach begins, n is how far it goes with these parts

@@ -17,8 +17,8 @@ use Rattle.hl_nodes.specs.Breaks.{Breaks, IsTableAt}
 use Rattle.hl_nodes.specs.Verdicts.{rule_number, BreaksNoneBefore}
 use Rattle.hl_nodes.proofs.PointerLemmas.{in_log-high}
 use Rattle.hl_found.proofs.TablesFound.{shape_between}
-use Rattle.hl_recovery.specs.declared.stop.MountStop.{MountStop}
-use Rattle.hl_recovery.specs.declared.stop.MountStop.TheVariants.{NoLabel, NoRecord, WrongRack, Damaged, DiskFault, Memory}
+use Rattle.hl_recovery.specs.declared.stop.MountError.{MountError}
+use Rattle.hl_recovery.specs.declared.stop.MountError.TheVariants.{NoLabel, NoRecord, WrongRack, Damaged, DiskFault, Memory}
 use Rattle.hl_recovery.specs.Recoveries.{AreInPlace, HasSite}
 use Rattle.hl_recovery.specs.Stops.{IsStopped}
 use Rattle.hl_recovery.specs.TablePlaces.{IsMisplaced, StopsAtTable, StopsAtTables}
@@ -78,7 +78,7 @@ module _ (g : Layout) (image : Image) (rec : Record) where
       none_before places,
     )
 
-    pub table_stops : (stop : MountStop) → StopsAtTable t image i address stop → StopsAtTables g image rec stop
+    pub table_stops : (stop : MountError) → StopsAtTable t image i address stop → StopsAtTables g image rec stop
     table_stops NoLabel never = never
     table_stops NoRecord never = never
     table_stops (WrongRack volume slots) never = never
@@ -102,7 +102,7 @@ module _ (g : Layout) (image : Image) (rec : Record) where
 
   -- with the site and the chain such a stop tells the first broken rule
   pub tables_stopped : (blocks : ℕ) (rack : List ℕ) (parts : List Summary) → HasSite blocks g rec image → rack ≡ g.volumes → IsCutChain g image (start_of rec) rec.serial parts
-      → (stop : MountStop) → StopsAtTables g image rec stop → IsStopped blocks rack image stop
+      → (stop : MountError) → StopsAtTables g image rec stop → IsStopped blocks rack image stop
   tables_stopped blocks rack parts has same chain NoLabel never = absurd never
   tables_stopped blocks rack parts has same chain NoRecord never = absurd never
   tables_stopped blocks rack parts has same chain (WrongRack volume slots) never = absurd never

@@ -1,7 +1,7 @@
 -- What a mount recovers of an image.
 use Rattle.std.specs.Prelude.{◌≡◌, ◌≢◌, ℕ, ◌+◌, ◌-◌, ◌^◌, ◌<◌, ◌≤◌, min, List, length, Some, slice_index}
 use Rattle.hl_media.specs.History.{Image}
-use Rattle.hl_addr.specs.Layout.{Layout}
+use Rattle.hl_addr.specs.Layout.{Layout, table_blocks}
 use Rattle.hl_super.specs.Labels.{Spells}
 use Rattle.hl_super.specs.declared.record.Record.{Record}
 use Rattle.hl_summary.specs.declared.parts.Summary.{Summary}
@@ -9,10 +9,10 @@ use Rattle.hl_image.specs.Places.{IsLogPlace, InLog}
 use Rattle.hl_image.specs.Chain.{IsCutChain, end_of}
 use Rattle.hl_image.specs.Newest.{IsNewest, label_of, start_of}
 use Rattle.hl_log.specs.Logs.{site_blocks}
-use Rattle.hl_tables.specs.Values.{SameShape, fresh}
+use Rattle.hl_tables.specs.Values.{AreTables}
 use Rattle.hl_nodes.specs.Tables.{HasLaidTables, parts_raised}
 use Rattle.hl_recovery.specs.declared.recovering.Recovered.{Recovered}
-use Rattle.hl_recovery.specs.Covering.{IsCoveredTo}
+use Rattle.hl_nodes.specs.Covering.{IsCovered}
 
 -- the image of a machine of so many blocks names the site: by its label, and by its newest record with these volumes
 pub record HasSite (blocks : ℕ) (g : Layout) (rec : Record) (image : Image) : Type 0 where
@@ -37,8 +37,7 @@ pub record HasRecovered (blocks : ℕ) (rack : List ℕ) (r : Recovered)
   pub chain : IsCutChain r.geometry image (start_of r.rec) r.rec.serial parts
   pub at_is : r.at ≡ end_of (start_of r.rec) parts
   pub serial_is : r.serial ≡ min (r.rec.serial + length parts) (2 ^ 64 - 1)
-  pub covers : (seg : ℕ) → seg ≤ r.geometry.log
-      → IsCoveredTo r.geometry (start_of r.rec) parts seg (slice_index r.covered.items seg)
+  pub covers : IsCovered r.geometry r.rec parts r.covered.items
   pub tseg_serial_is : r.tseg_serial ≡ parts_raised r.rec.tseg_serial parts
   pub laid : HasLaidTables r.geometry image r.rec parts r.tables
   pub in_place : AreInPlace r.geometry r.rec.tables
@@ -52,4 +51,5 @@ pub record IsReady (blocks : ℕ) (rack : List ℕ) (r : Recovered) : Type 0 whe
   pub head : IsLogPlace r.geometry r.at
   pub segments : length r.covered.items ≡ r.geometry.log + 1
   pub tseg_serial : 1 ≤ r.tseg_serial
-  pub shape : SameShape (fresh r.geometry) r.tables
+  pub blocks_named : length r.rec.tables ≡ table_blocks r.geometry
+  pub tables : AreTables r.geometry r.tables

@@ -12,8 +12,8 @@ use Rattle.hl_image.specs.Chain.{IsCutChain}
 use Rattle.hl_image.specs.Newest.{start_of}
 use Rattle.hl_nodes.specs.declared.rule.Rule.{Rule}
 use Rattle.hl_nodes.specs.Verdicts.{rule_number, IsRuleBroken, BreaksNoneBefore}
-use Rattle.hl_recovery.specs.declared.stop.MountStop.{MountStop}
-use Rattle.hl_recovery.specs.declared.stop.MountStop.TheVariants.{NoLabel, NoRecord, WrongRack, Damaged, DiskFault, Memory}
+use Rattle.hl_recovery.specs.declared.stop.MountError.{MountError}
+use Rattle.hl_recovery.specs.declared.stop.MountError.TheVariants.{NoLabel, NoRecord, WrongRack, Damaged, DiskFault, Memory}
 use Rattle.hl_recovery.specs.Racks.{DifferFirstAt}
 use Rattle.hl_recovery.specs.Recoveries.{HasSite}
 
@@ -47,7 +47,7 @@ pub record HasBroken (blocks : ℕ) (rack : List ℕ) (image : Image)
   pub first : BreaksNoneBefore geometry image rec parts (rule_number rule)
 
 -- what the image has where a mount is stopped
-abbrev pub IsStopped : ℕ → List ℕ → Image → MountStop → Type 0
+abbrev pub IsStopped : ℕ → List ℕ → Image → MountError → Type 0
 IsStopped blocks rack image NoLabel = (v : Label) → ¬ labels.Spells blocks (image 0) v
 IsStopped blocks rack image NoRecord = LacksRecord blocks image
 IsStopped blocks rack image (WrongRack volume slots) =
@@ -57,7 +57,7 @@ IsStopped blocks rack image DiskFault = Unit {0}
 IsStopped blocks rack image Memory = Unit {0}
 
 -- the count of failed calls rose where a fault is told, and stays otherwise
-abbrev pub StopsBy : ℕ → ℕ → MountStop → Type 0
+abbrev pub StopsBy : ℕ → ℕ → MountError → Type 0
 StopsBy before now NoLabel = now ≡ before
 StopsBy before now NoRecord = now ≡ before
 StopsBy before now (WrongRack volume slots) = now ≡ before
@@ -66,7 +66,7 @@ StopsBy before now DiskFault = Rose before now
 StopsBy before now Memory = now ≡ before
 
 -- a fault, or want of memory
-abbrev pub IsPlain : MountStop → Type 0
+abbrev pub IsPlain : MountError → Type 0
 IsPlain NoLabel = ⊥
 IsPlain NoRecord = ⊥
 IsPlain (WrongRack volume slots) = ⊥

@@ -10,8 +10,8 @@ use Rattle.hl_tables.specs.TableBlocks.{IsTableBlock}
 use Rattle.hl_nodes.specs.declared.rule.Rule.TheVariants.{TableBytes}
 use Rattle.hl_nodes.specs.Breaks.{Breaks}
 use Rattle.hl_nodes.specs.Verdicts.{rule_number, BreaksNoneBefore}
-use Rattle.hl_recovery.specs.declared.stop.MountStop.{MountStop}
-use Rattle.hl_recovery.specs.declared.stop.MountStop.TheVariants.{NoLabel, NoRecord, WrongRack, Damaged, DiskFault, Memory}
+use Rattle.hl_recovery.specs.declared.stop.MountError.{MountError}
+use Rattle.hl_recovery.specs.declared.stop.MountError.TheVariants.{NoLabel, NoRecord, WrongRack, Damaged, DiskFault, Memory}
 
 -- an address among these that isn't in the log, or stands before too
 pub record IsMisplaced (g : Layout) (addresses : List ℕ) (address : ℕ) : Type 0 where
@@ -22,7 +22,7 @@ pub record IsMisplaced (g : Layout) (addresses : List ℕ) (address : ℕ) : Typ
       ⊎ ((j : ℕ) × (j < place) × (slice_index addresses j ≡ address))
 
 -- a block that no tables of the shape have as their block i, a fault, or want of memory
-abbrev pub StopsAtTable : TableValues → Image → ℕ → ℕ → MountStop → Type 0
+abbrev pub StopsAtTable : TableValues → Image → ℕ → ℕ → MountError → Type 0
 StopsAtTable t image i address NoLabel = ⊥
 StopsAtTable t image i address NoRecord = ⊥
 StopsAtTable t image i address (WrongRack volume slots) = ⊥
@@ -32,7 +32,7 @@ StopsAtTable t image i address DiskFault = Unit {0}
 StopsAtTable t image i address Memory = Unit {0}
 
 -- the rule 1 or 2 that is broken there, and none before it, whatever the chain; a fault, or want of memory
-abbrev pub StopsAtTables : Layout → Image → Record → MountStop → Type 0
+abbrev pub StopsAtTables : Layout → Image → Record → MountError → Type 0
 StopsAtTables g image rec NoLabel = ⊥
 StopsAtTables g image rec NoRecord = ⊥
 StopsAtTables g image rec (WrongRack volume slots) = ⊥

@@ -10,7 +10,7 @@ ghost use Rattle.hl_recovery.specs.Stops.{IsPlain, StopsBy};
 
 use crate::segment::{next_part, none_held};
 use crate::site::Site;
-use crate::stop::MountStop;
+use crate::stop::MountError;
 use hl_image::{ChainPart, LogPlace};
 use hl_media::Machine;
 use std::alloc::Global;
@@ -44,7 +44,7 @@ pub(crate) fn find_chain<M: Machine>(
     alloc: Global,
     machine: &mut M,
     site: &Site,
-) -> Result<Chain, MountStop>
+) -> Result<Chain, MountError>
     requires { IsSite (M.blocks machine.old) site.now }
     ensures found { let g = site.now.geometry in
         IfOk result (λ chain. Now (M.history machine.old)

@@ -10,7 +10,7 @@ ghost use Rattle.hl_recovery.specs.Finding.{FindsLabel, FindsRecord, FitsOn, IsR
 ghost use Rattle.hl_recovery.specs.Stops.{IsPlain, StopsBy};
 
 use crate::reading::read_block;
-use crate::stop::MountStop;
+use crate::stop::MountError;
 use hl_bytes::BLOCK;
 use hl_media::{Failed, Machine};
 use hl_super::{Label, Record, decode_label, decode_record, newest};
@@ -41,7 +41,7 @@ fn find_record<M: Machine>(
     machine: &mut M,
     at: u32,
     label: &Label,
-) -> Result<Option<Record>, MountStop>
+) -> Result<Option<Record>, MountError>
     requires { at < M.blocks machine.old }
     ensures found { IfOk result (λ r. Now (M.history machine.old)
         (λ s. FindsRecord at label.now s.content r)) }
@@ -63,7 +63,7 @@ pub(crate) fn find_newest<M: Machine>(
     alloc: Global,
     machine: &mut M,
     label: &Label,
-) -> Result<Option<Record>, MountStop>
+) -> Result<Option<Record>, MountError>
     requires { 2 < M.blocks machine.old }
     ensures found { IfOk result (λ r. Now (M.history machine.old)
         (λ s. (volumes : List ℕ) → IsNewest (layout_of label.now volumes) s.content r)) }

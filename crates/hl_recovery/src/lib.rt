@@ -19,4 +19,4 @@ mod stop;
 mod tables;
 
 pub use recovering::{Recovered, recover};
-pub use stop::MountStop;
+pub use stop::MountError;

@@ -15,8 +15,8 @@ ghost use Rattle.hl_recovery.specs.Stops.{IsStopped, StopsBy};
 use crate::chain::{Chain, find_chain};
 use crate::covered::{covered_segments, raised_behind};
 use crate::site::{Site, find_site};
-use crate::stop::MountStop;
-use crate::tables::{find_tables, lay_parts};
+use crate::stop::MountError;
+use crate::tables::{are_of_site, find_tables, lay_parts};
 use hl_addr::Geometry;
 use hl_image::LogPlace;
 use hl_media::Machine;
@@ -63,6 +63,7 @@ fn laid_together(
         → AreInPlace site.geometry site.rec.tables → HasRecovered blocks rack r image) }
 {
     lay_parts(&mut tables, chain.parts.as_slice());
+    are_of_site(&site.geometry, &tables);
     let covered = covered_segments(alloc, &site.geometry, chain.parts.as_slice())?;
     let tseg_serial = raised_behind(site.rec.tseg_serial, chain.parts.as_slice());
     Ok(Recovered {
@@ -85,7 +86,7 @@ pub fn recover<M: Machine>(
     alloc: Global,
     machine: &mut M,
     rack: &[u32],
-) -> Result<Recovered, MountStop>
+) -> Result<Recovered, MountError>
     ensures recovered { let blocks = M.blocks machine.old in
         IfOk result (λ r. Now (M.history machine.old)
         (λ s. HasRecovered blocks rack.now r s.content)) }

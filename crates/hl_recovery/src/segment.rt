@@ -12,7 +12,7 @@ ghost use Rattle.hl_recovery.specs.Chains.{FindsPart};
 ghost use Rattle.hl_recovery.specs.Finding.{IsHeld};
 ghost use Rattle.hl_recovery.specs.Stops.{IsPlain, StopsBy};
 
-use crate::stop::MountStop;
+use crate::stop::MountError;
 use hl_addr::Geometry;
 use hl_bytes::SegBuf;
 use hl_image::LogPlace;
@@ -116,7 +116,7 @@ pub(crate) fn next_part<M: Machine>(
     held: &mut Held,
     at: LogPlace,
     serial: u64,
-) -> Result<Option<Summary>, MountStop>
+) -> Result<Option<Summary>, MountError>
     requires limits { IsWithinLimits geometry.now }
     requires low { 1 ≤ at.seg }
     requires high { at.seg ≤ geometry.now.log }

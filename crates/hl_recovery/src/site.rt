@@ -10,7 +10,7 @@ ghost use Rattle.hl_recovery.specs.Stops.{IsStopped, StopsBy};
 
 use crate::label::{find_label, find_newest};
 use crate::rack::{first_other, slots_of};
-use crate::stop::MountStop;
+use crate::stop::MountError;
 use hl_addr::Geometry;
 use hl_media::Machine;
 use hl_super::{Label, Record};
@@ -37,7 +37,7 @@ fn site_of(alloc: Global, label: &Label, rec: Record) -> Result<Site, AllocError
 }
 
 /// The label and the newest record of the disk.
-fn find_named<M: Machine>(alloc: Global, machine: &mut M) -> Result<Site, MountStop>
+fn find_named<M: Machine>(alloc: Global, machine: &mut M) -> Result<Site, MountError>
     ensures site { IfOk result (IsSite (M.blocks machine.old)) }
     ensures found { let blocks = M.blocks machine.old in
         IfOk result (λ site. Now (M.history machine.old)
@@ -51,11 +51,11 @@ fn find_named<M: Machine>(alloc: Global, machine: &mut M) -> Result<Site, MountS
         (StopsBy (M.faults machine.old) (M.faults machine.new)) }
 {
     let Some(label) = find_label(machine)? else {
-        return Err(MountStop::NoLabel);
+        return Err(MountError::NoLabel);
     };
     match find_newest(alloc, machine, &label)? {
         Some(rec) => Ok(site_of(alloc, &label, rec)?),
-        None => Err(MountStop::NoRecord),
+        None => Err(MountError::NoRecord),
     }
 }
 
@@ -64,7 +64,7 @@ pub(crate) fn find_site<M: Machine>(
     alloc: Global,
     machine: &mut M,
     rack: &[u32],
-) -> Result<Site, MountStop>
+) -> Result<Site, MountError>
     ensures site { IfOk result (IsSite (M.blocks machine.old)) }
     ensures rack { IfOk result (λ site. rack.now ≡ site.geometry.volumes) }
     ensures found { let blocks = M.blocks machine.old in
@@ -80,7 +80,7 @@ pub(crate) fn find_site<M: Machine>(
 {
     let site = find_named(alloc, machine)?;
     match first_other(site.rec.volumes.items(), rack) {
-        Some(volume) => Err(MountStop::WrongRack {
+        Some(volume) => Err(MountError::WrongRack {
             volume,
             slots: slots_of(rack, volume),
         }),

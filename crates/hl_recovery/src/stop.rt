@@ -6,7 +6,7 @@ use std::alloc::{AllocError, AllocFailed};
 
 /// What stops a mount before anything is changed.
 #[derive(Clone, Copy, Debug, PartialEq, Eq)]
-pub enum MountStop {
+pub enum MountError {
     /// Block 0 spells no label on a machine of so many blocks.
     NoLabel,
     /// Neither block 1 nor block 2 spells a record of the label.
@@ -22,35 +22,35 @@ pub enum MountStop {
     Memory,
 }
 
-impl From<AllocError> for MountStop {
+impl From<AllocError> for MountError {
     ghost use Rattle.std.specs.Prelude.{◌≡◌};
-    ghost use Rattle.hl_recovery.specs.declared.stop.MountStop.TheVariants.{Memory};
+    ghost use Rattle.hl_recovery.specs.declared.stop.MountError.TheVariants.{Memory};
 
     ghost from_gives = { λ _ stop. stop ≡ Memory };
 
-    fn from(_e: AllocError) -> MountStop {
-        MountStop::Memory
+    fn from(_e: AllocError) -> MountError {
+        MountError::Memory
     }
 }
 
-impl<T: Drop> From<AllocFailed<T>> for MountStop {
+impl<T: Drop> From<AllocFailed<T>> for MountError {
     ghost use Rattle.std.specs.Prelude.{◌≡◌};
-    ghost use Rattle.hl_recovery.specs.declared.stop.MountStop.TheVariants.{Memory};
+    ghost use Rattle.hl_recovery.specs.declared.stop.MountError.TheVariants.{Memory};
 
     ghost from_gives = { λ _ stop. stop ≡ Memory };
 
-    fn from(_e: AllocFailed<T>) -> MountStop {
-        MountStop::Memory
+    fn from(_e: AllocFailed<T>) -> MountError {
+        MountError::Memory
     }
 }
 
-impl From<Failed> for MountStop {
+impl From<Failed> for MountError {
     ghost use Rattle.std.specs.Prelude.{◌≡◌};
-    ghost use Rattle.hl_recovery.specs.declared.stop.MountStop.TheVariants.{DiskFault};
+    ghost use Rattle.hl_recovery.specs.declared.stop.MountError.TheVariants.{DiskFault};
 
     ghost from_gives = { λ _ stop. stop ≡ DiskFault };
 
-    fn from(_e: Failed) -> MountStop {
-        MountStop::DiskFault
+    fn from(_e: Failed) -> MountError {
+        MountError::DiskFault
     }
 }

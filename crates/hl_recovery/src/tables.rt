@@ -18,7 +18,7 @@ ghost use Rattle.hl_recovery.specs.TablePlaces.{IsMisplaced, StopsAtTable, Stops
 
 use crate::reading::read_block;
 use crate::site::Site;
-use crate::stop::MountStop;
+use crate::stop::MountError;
 use hl_addr::Geometry;
 use hl_bytes::BLOCK;
 use hl_image::ChainPart;
@@ -57,7 +57,7 @@ fn misplaced(geometry: &Geometry, addresses: &[u32]) -> Option<u32>
 }
 
 /// Tables of the site's shape are tables of the site: what they say of themselves.
-fn are_of_site(geometry: &Geometry, tables: &Tables)
+pub(crate) fn are_of_site(geometry: &Geometry, tables: &Tables)
     requires { SameShape (fresh geometry.now) tables.now }
     ensures { AreTables geometry.now tables.now }
 {
@@ -71,7 +71,7 @@ fn read_table<M: Machine>(
     tables: &mut Tables,
     i: u32,
     address: u32,
-) -> Result<(), MountStop>
+) -> Result<(), MountError>
     requires exists { let slots = sum tables.old.slots.volumes in
         i < table_blocks_of (length tables.old.used) (length tables.old.inodes) slots }
     requires within { address < M.blocks machine.old }
@@ -91,7 +91,7 @@ fn read_table<M: Machine>(
     let mut block = [0; BLOCK];
     read_block(machine, address, &mut block)?;
     if !tables.read_block(i, &block) {
-        return Err(MountStop::Damaged {
+        return Err(MountError::Damaged {
             block: address,
             rule: Rule::TableBytes,
         });
@@ -100,7 +100,11 @@ fn read_table<M: Machine>(
 }
 
 /// The tables that the blocks at these addresses spell. It reads each block once.
-fn read_tables<M: Machine>(alloc: Global, machine: &mut M, site: &Site) -> Result<Tables, MountStop>
+fn read_tables<M: Machine>(
+    alloc: Global,
+    machine: &mut M,
+    site: &Site,
+) -> Result<Tables, MountError>
     requires site { IsSite (M.blocks machine.old) site.now }
     requires places { AreInPlace site.now.geometry site.now.rec.tables }
     ensures spelled { let g = site.now.geometry in
@@ -130,7 +134,7 @@ pub(crate) fn find_tables<M: Machine>(
     alloc: Global,
     machine: &mut M,
     site: &Site,
-) -> Result<Tables, MountStop>
+) -> Result<Tables, MountError>
     requires { IsSite (M.blocks machine.old) site.now }
     ensures spelled { let g = site.now.geometry in
         IfOk result (λ tables. Now (M.history machine.old)
@@ -146,7 +150,7 @@ pub(crate) fn find_tables<M: Machine>(
         (StopsBy (M.faults machine.old) (M.faults machine.new)) }
 {
     match misplaced(&site.geometry, site.rec.tables.items()) {
-        Some(block) => Err(MountStop::Damaged {
+        Some(block) => Err(MountError::Damaged {
             block,
             rule: Rule::TablePlace,
         }),

@@ -16,7 +16,7 @@ use Rattle.hl_tseg.specs.declared.slot.Slot.{Slot}
 use Rattle.hl_tseg.specs.SlotTable.{SlotTable, slot_at}
 use Rattle.hl_nodes.specs.Lines.{IsZeroFrom, OnDisk}
 use Rattle.hl_staged.specs.Ends.{IsNonzero, IsOffEnd, IsStagedAt}
-use Rattle.hl_staged.specs.Tells.{Tells}
+use Rattle.hl_nodes.specs.Telling.{Tells}
 
 -- where a pointer's block lies on the disk, by what the pointer's address stands for
 module _ (g : Layout) (slots : SlotTable) (pointer : ℕ) (place : Place) (only : (other : Place) → IsAt g pointer other → other ≡ place) where

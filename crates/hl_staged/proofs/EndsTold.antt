@@ -23,7 +23,7 @@ use Rattle.hl_survey.specs.declared.found.FoundInode.{FoundInode}
 use Rattle.hl_survey.specs.Surveys.{ArePointers, AreSurveyed, IsFound}
 use Rattle.hl_survey.proofs.Unchanged.{held_before}
 use Rattle.hl_staged.specs.Ends.{HasEnd, IsOffEnd, IsOffFile, TellsNumber}
-use Rattle.hl_staged.specs.Tells.{Tells}
+use Rattle.hl_nodes.specs.Telling.{Tells}
 use Rattle.hl_staged.proofs.Repeated.{last_or_before}
 
 begun : (size : ℕ) → size % 4096 ≢ 0 → size / 4096 < blocks_of size

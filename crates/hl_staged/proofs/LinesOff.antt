@@ -20,7 +20,7 @@ use Rattle.hl_nodes.specs.Breaks.{Breaks}
 use Rattle.hl_view.specs.Lines.{IsSegment}
 use Rattle.hl_nodes.specs.Lines.{line_bytes, line_start}
 use Rattle.hl_staged.specs.Lines.{IsOffLine}
-use Rattle.hl_staged.specs.Tells.{Tells}
+use Rattle.hl_nodes.specs.Telling.{Tells}
 use Rattle.hl_survey.proofs.Unchanged.{held_before}
 use Rattle.hl_staged.proofs.Repeated.{last_or_before}
 

@@ -22,7 +22,7 @@ use Rattle.hl_nodes.specs.Sound.{AreSlots}
 use Rattle.hl_nodes.specs.Tables.{parts_raised}
 use Rattle.hl_staged.specs.Repeats.{AreOnce, IsRepeat, StandsAt}
 use Rattle.hl_staged.specs.Slots.{IsOffLimits, IsTooMany, TellsSlot, line_of}
-use Rattle.hl_staged.specs.Tells.{Tells}
+use Rattle.hl_nodes.specs.Telling.{Tells}
 
 line_staged : (slot : Slot) (line : ℕ) → line_of slot ≡ Some line → (serial : ℕ) × (slot ≡ Staged line serial)
 line_staged (Staged own serial) line e = (serial, (cc))

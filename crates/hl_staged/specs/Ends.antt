@@ -11,7 +11,7 @@ use Rattle.hl_nodes.specs.Pointers.{pointer_of}
 use Rattle.hl_nodes.specs.Lines.{line_start, OnDisk, IsZeroFrom}
 use Rattle.hl_survey.specs.declared.found.FoundInode.{FoundInode}
 use Rattle.hl_survey.specs.Surveys.{ArePointers}
-use Rattle.hl_staged.specs.Tells.{Tells}
+use Rattle.hl_nodes.specs.Telling.{Tells}
 
 -- the slot is staged, and this block of its line is this one of the disk
 abbrev pub IsStagedAt : Layout → Slot → ℕ → ℕ → Type 0

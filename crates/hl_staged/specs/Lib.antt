@@ -1,4 +1,3 @@
-pub mod Tells
 pub mod Repeats
 pub mod Slots
 pub mod Lines

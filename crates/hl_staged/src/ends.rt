@@ -17,7 +17,7 @@ ghost use Rattle.hl_nodes.specs.Breaks.{Breaks};
 ghost use Rattle.hl_survey.specs.Surveys.{ArePointers, AreSurveyed};
 ghost use Rattle.std.specs.List.{slice_index_or};
 ghost use Rattle.hl_staged.specs.Slots.{HaveLines};
-ghost use Rattle.hl_staged.specs.Tells.{Tells};
+ghost use Rattle.hl_nodes.specs.Telling.{Tells};
 
 use crate::lines::line_start;
 use hl_addr::{Geometry, Place};

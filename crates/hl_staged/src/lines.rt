@@ -17,7 +17,7 @@ ghost use Rattle.hl_nodes.specs.Breaks.{Breaks};
 ghost use Rattle.hl_nodes.specs.Lines.{line_bytes, line_start};
 ghost use Rattle.hl_staged.specs.Lines.{IsOffLine};
 ghost use Rattle.hl_staged.specs.Slots.{HaveLines};
-ghost use Rattle.hl_staged.specs.Tells.{Tells};
+ghost use Rattle.hl_nodes.specs.Telling.{Tells};
 
 use crate::stop::CheckStop;
 use hl_addr::Geometry;

@@ -14,7 +14,7 @@ ghost use Rattle.hl_nodes.specs.Breaks.{Breaks, IsTableAt};
 ghost use Rattle.hl_nodes.specs.Sound.{AreSlots};
 ghost use Rattle.hl_nodes.specs.Tables.{parts_raised};
 ghost use Rattle.hl_staged.specs.Slots.{IsOffLimits, IsTooMany, TellsSlot, line_of};
-ghost use Rattle.hl_staged.specs.Tells.{Tells};
+ghost use Rattle.hl_nodes.specs.Telling.{Tells};
 
 use crate::repeats::first_repeat;
 use hl_addr::Geometry;

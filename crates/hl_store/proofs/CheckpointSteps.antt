@@ -14,7 +14,7 @@ use Rattle.hl_image.specs.declared.place.LogPlace.{LogPlace}
 use Rattle.hl_log.specs.declared.position.Position.{Position}
 use Rattle.hl_log.specs.declared.unit.UnitAnswer.{UnitAnswer}
 use Rattle.hl_log.specs.declared.unit.UnitAnswer.TheVariants as answer
-use Rattle.hl_log.specs.Checkpoints.{Checkpoints, Given, given_by}
+use Rattle.hl_log.specs.Checkpoints.{Checkpoints, Given, IsRecordBehind, given_by}
 use Rattle.hl_log.specs.Cut.{HasClean}
 use Rattle.hl_log.specs.Logs as logs
 use Rattle.hl_log.specs.Logs.{CheckpointIsWritten, Failed, LogValue}
@@ -26,7 +26,7 @@ use Rattle.hl_tally.proofs.Segments.{length-removed}
 use Rattle.hl_store.specs.declared.checkpointing.Supplies.{Supplies}
 use Rattle.hl_store.specs.Values.{IsTidy, StoreValue, layout}
 use Rattle.hl_store.specs.Shapes.{IsShaped}
-use Rattle.hl_store.specs.Checkpointing.{AreSupplies, CheckpointEndsIn, GoesOnOver, HasTableRoom, KeepsContents, blocks_of_tables, clean_of, given_of, is_clean, marked, marks_of, renewed}
+use Rattle.hl_store.specs.Checkpointing.{AreSupplies, CheckpointEndsInReserve, GoesOnOver, HasTableRoom, KeepsContents, blocks_of_tables, clean_of, given_of, is_clean, marked, marks_of, renewed}
 use Rattle.hl_store.proofs.MarkLemmas.{clean_segments_are, passed_few}
 use Rattle.hl_store.proofs.CheckpointLemmas.{checkpoint_goes_on, checkpoint_runs}
 
@@ -153,7 +153,7 @@ module _ {M : Type 0} (history : M → Option History) (faults write_faults : M 
       same e = same_but_log ∙ ap (λ (l : LogValue M). record v { log = l }) e
 
       ends_else : (a : UnitAnswer) → ((used : ℕ) → a ≡ answer.Written used → ⊥) → logs.CheckpointEnds history faults write_faults v.clean (given_of v) (contents_of_tables (layout v) (marked v)) v.log log a
-          → CheckpointEndsIn history faults write_faults v (record v { log = log; tables = back }) a
+          → CheckpointEndsInReserve history faults write_faults v (record v { log = log; tables = back }) a
       ends_else (answer.Written used) not_written e = absurd (not_written used refl)
       ends_else answer.LogFull not_written e = (λ room. e.0 (needs_room room), same e.1)
       ends_else answer.DiskFault not_written e = (has_room e.0, e.1, same_but_log)
@@ -165,7 +165,7 @@ module _ {M : Type 0} (history : M → Option History) (faults write_faults : M 
       at_else answer.DiskFault not_written e = e.1.at
       at_else answer.Memory not_written e = ap (λ (l : LogValue M). l.at) e
 
-      else_ends : ((used : ℕ) → ans ≡ answer.Written used → ⊥) → CheckpointEndsIn history faults write_faults v (record v { log = log; tables = back }) ans
+      else_ends : ((used : ℕ) → ans ≡ answer.Written used → ⊥) → CheckpointEndsInReserve history faults write_faults v (record v { log = log; tables = back }) ans
       else_ends not_written = ends_else ans not_written ended
 
       else_shaped : ((used : ℕ) → ans ≡ answer.Written used → ⊥) → IsShaped (record v { log = log; tables = back })
@@ -234,7 +234,7 @@ module _ {M : Type 0} (history : M → Option History) (faults write_faults : M 
           })
 
       written_ends : (a : UnitAnswer) (used : ℕ) → a ≡ answer.Written used → logs.CheckpointEnds history faults write_faults v.clean (given_of v) (contents_of_tables (layout v) (marked v)) v.log log a
-          → CheckpointEndsIn history faults write_faults v new a
+          → CheckpointEndsInReserve history faults write_faults v new a
       written_ends a used is e = by (subst (logs.CheckpointEnds history faults write_faults v.clean (given_of v) (contents_of_tables (layout v) (marked v)) v.log log) is e)
         where
           over : CheckpointIsWritten history faults write_faults v.clean (given_of v) (contents_of_tables (layout v) (marked v)) v.log log used → Ends (history v.log.machine) (history log.machine) (GoesOnOver v new)
@@ -242,9 +242,19 @@ module _ {M : Type 0} (history : M → Option History) (faults write_faults : M 
               (checkpoint_goes_on v step.shaped step.whole tidy log.machine log.rec log.at (drop used v.clean) w.at (history v.log.machine) (history log.machine) w.written)
 
           by : HasClean (layout v) v.log.at.head v.clean (length (contents_of_tables (layout v) (marked v))) 0
-              × CheckpointIsWritten history faults write_faults v.clean (given_of v) (contents_of_tables (layout v) (marked v)) v.log log used → CheckpointEndsIn history faults write_faults v new a
-          by f = subst (CheckpointEndsIn history faults write_faults v new) (sym is)
-              (has_room f.0, record { within = f.1.within; is = new_is; tidy = tidy; succeeded = f.1.succeeded; over = over f.1 })
+              × CheckpointIsWritten history faults write_faults v.clean (given_of v) (contents_of_tables (layout v) (marked v)) v.log log used → CheckpointEndsInReserve history faults write_faults v new a
+          by f = subst (CheckpointEndsInReserve history faults write_faults v new) (sym is) (
+            has_room f.0,
+            record {
+              within = f.1.within;
+              is = new_is;
+              tidy = tidy;
+              at = f.1.at;
+              rec = subst (λ n. IsRecordBehind (layout v) v.log.at v.clean (drop used v.clean) (given_of v) n log.rec) size f.1.rec;
+              succeeded = f.1.succeeded;
+              over = over f.1;
+            },
+          )
 
   -- THE SAME OF THE STORE AS ITS FIELDS MAKE IT
   module _ (v old : StoreValue M) (supplies : Supplies) (marks : List Bool) (tables : TableValues) (clean : List ℕ) (log : LogValue M) (ans : UnitAnswer) (view : v ≡ old) (tidy : IsTidy old) (are : AreSupplies old supplies)
@@ -259,8 +269,8 @@ module _ {M : Type 0} (history : M → Option History) (faults write_faults : M 
     checkpoint_crash = subst (λ x. Runs (history x.log.machine) (history log.machine) (KeepsContents x)) view (kept v supplies marks tables clean log ans tidy_of are_of step)
 
     module _ (before : List Bool) (back : TableValues) (before_are : before ≡ supplies.before.items) (back_is : back ≡ record tables { used = before }) (not_written : (used : ℕ) → ans ≡ answer.Written used → ⊥) where
-      pub checkpoint_fails : CheckpointEndsIn history faults write_faults old (record v { log = log; tables = back }) ans
-      checkpoint_fails = subst (λ x. CheckpointEndsIn history faults write_faults x (record v { log = log; tables = back }) ans) view
+      pub checkpoint_fails : CheckpointEndsInReserve history faults write_faults old (record v { log = log; tables = back }) ans
+      checkpoint_fails = subst (λ x. CheckpointEndsInReserve history faults write_faults x (record v { log = log; tables = back }) ans) view
           (else_ends v supplies marks tables clean log ans tidy_of are_of step before back before_are back_is not_written)
 
       pub failed_shaped : IsShaped (record v { log = log; tables = back })
@@ -270,8 +280,8 @@ module _ {M : Type 0} (history : M → Option History) (faults write_faults : M 
       gone_is : tally ≡ tables_counted (layout v) v.log.rec.tables log.rec.tables v.tally
       gone_is = tally_is ∙ ap (λ (gone : List ℕ). tables_counted (layout v) gone log.rec.tables v.tally) are_of.gone
 
-      pub checkpoint_writes : (used : ℕ) → ans ≡ answer.Written used → CheckpointEndsIn history faults write_faults old (record v { log = log; tables = tables; tally = tally; clean = segments }) ans
-      checkpoint_writes used is = subst (λ x. CheckpointEndsIn history faults write_faults x (record v { log = log; tables = tables; tally = tally; clean = segments }) ans) view
+      pub checkpoint_writes : (used : ℕ) → ans ≡ answer.Written used → CheckpointEndsInReserve history faults write_faults old (record v { log = log; tables = tables; tally = tally; clean = segments }) ans
+      checkpoint_writes used is = subst (λ x. CheckpointEndsInReserve history faults write_faults x (record v { log = log; tables = tables; tally = tally; clean = segments }) ans) view
           (written_ends v supplies marks tables clean log ans tidy_of are_of step tally segments gone_is segments_are ans used is (ended v supplies marks tables clean log ans tidy_of are_of step))
 
       pub checkpointed_shaped : IsShaped (record v { log = log; tables = tables; tally = tally; clean = segments })

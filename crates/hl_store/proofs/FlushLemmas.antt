@@ -132,7 +132,7 @@ module _ {M : Type 0} (v : StoreValue M) (shaped : IsShaped v) (whole : IsWholeO
         -- an image with the contents before the unit or those behind it, sound and listed
         holds_either : (image : Image) → HasSound (layout v) image c ⊎ HasSound (layout v) image after → HoldsListed (layout v) image c ⊎ HoldsListed (layout v) image after → HoldsEither v c image
         holds_either image (inl sound) (inl listed) = inl (record { sound = sound; listed = listed })
-        holds_either image (inr sound) (inr listed) = inr (record { contents = after; holds = record { sound = sound; listed = listed }; rec = refl; nodes = refl })
+        holds_either image (inr sound) (inr listed) = inr (record { contents = after; holds = record { sound = sound; listed = listed }; rec = refl; nodes = refl; slots = slots_behind })
         holds_either image (inl sound) (inr listed) = inl (record { sound = sound; listed = subst (HoldsListed (layout v) image) (one_contents (layout v) image after c listed.has sound.has) listed })
         holds_either image (inr sound) (inl listed) = inl (record { sound = subst (HasSound (layout v) image) (one_contents (layout v) image after c sound.has listed.has) sound; listed = listed })
 

@@ -10,7 +10,7 @@ use Rattle.hl_summary.specs.Ranges.{IsBlockOf}
 use Rattle.hl_log.specs.Cut.{AreCut, IsPlan}
 use Rattle.hl_log.specs.Loads.{AreOf}
 use Rattle.hl_log.specs.Logs.{LogValue, UnitEnds, UnitIsWritten}
-use Rattle.hl_log.specs.Units.{Brought, HasCleanFor, HasWritten, WritesUnit}
+use Rattle.hl_log.specs.Units.{Brought, GoesOn, HasCleanFor, HasWritten, WritesUnit}
 use Rattle.hl_log.specs.Free.{AreClean}
 use Rattle.hl_image.specs.declared.place.LogPlace.{LogPlace}
 use Rattle.hl_addr.specs.Layout.{table_blocks}
@@ -216,6 +216,11 @@ module _ {M : Type 0} (v : StoreValue M) (shaped : IsShaped v) (whole : IsWholeO
         slots = slots_same v shaped whole plan made.blocks is.planned.0 is.planned.1 is.planned.2 is.planned.3 is.adds log.machine log.at t o r used w.at laid_on empty.none;
         serial = refl;
         buffer = refl;
+        rec = w.rec;
+        at = w.at;
+        goes_on = subst (λ n. GoesOn (layout v) v.log.at v.clean n (length (unit_changes v.overlay v.notes)) log.at.head log.at.serial (drop used v.clean))
+            (length-map made.blocks (λ (b : BlockRecord × Block). b.0) ∙ size)
+            (subst (λ (ts : List TableRecord). GoesOn (layout v) v.log.at v.clean (length brought.records) (length ts) log.at.head log.at.serial (drop used v.clean)) is.tables w.goes_on);
         succeeded = w.succeeded;
         over = subst (λ (x : StoreValue M). Ends (history v.log.machine) (history log.machine) (FlushesAll v x)) (sym same)
             (flushed v shaped whole plan made.blocks is.planned.0 is.planned.1 is.planned.2 is.planned.3 is.adds log.machine log.at t o r used w.at laid_on empty.none

@@ -1,5 +1,5 @@
 -- A checkpoint of a store: the same nodes behind its record or the next one, at every moment.
-use Rattle.std.specs.Prelude.{◌≡◌, [], ◌⊎◌, ℕ, ◌+◌, ◌-◌, ◌<◌, ◌≤◌, ◌^◌, ◌==◌, ◌&&◌, not, nat_lt, Bool, List, length, map, slice_index, sum, Option}
+use Rattle.std.specs.Prelude.{◌≡◌, [], ◌⊎◌, ℕ, ◌+◌, ◌-◌, ◌<◌, ◌≤◌, ◌^◌, ◌==◌, ◌&&◌, not, nat_lt, Bool, List, drop, length, map, slice_index, sum, Option}
 use Rattle.std.specs.List.{filter, range_with_len}
 use Rattle.std.specs.Vec.{vec_capacity}
 use Rattle.hl_media.specs.History.{History, Image, MachineState}
@@ -8,7 +8,7 @@ use Rattle.hl_addr.specs.Layout.{table_blocks, table_blocks_of}
 use Rattle.hl_super.specs.declared.record.Record.{Record}
 use Rattle.hl_tables.specs.Values.{TableValues}
 use Rattle.hl_tables.specs.TableBlocks.{table_block}
-use Rattle.hl_log.specs.Checkpoints.{Given, IsNextRecord, IsOf, KeepsRest, given_by}
+use Rattle.hl_log.specs.Checkpoints.{Given, IsNextRecord, IsOf, IsRecordBehind, KeepsRest, given_by, restarted_at}
 use Rattle.hl_log.specs.Cut.{HasClean}
 use Rattle.hl_log.specs.Logs.{Failed, Succeeded}
 use Rattle.hl_log.specs.Rest.{StopLeaves}
@@ -101,11 +101,15 @@ module _ {M : Type 0} where
       let tally = tables_counted (layout old) old.log.rec.tables new.log.rec.tables old.tally in
       record old { log = new.log; tables = marked old; tally = tally; clean = clean_of new.log.at.head.seg tally.live }
 
-  -- The checkpoint was written, with so many of the clean segments, and no call failed.
-  pub record IsCheckpointed (history : M → Option History) (faults write_faults : M → ℕ) (old new : StoreValue M) (used : ℕ) : Type 0 where
+  -- The checkpoint was written, with so many of the clean segments: the log starts at its record, and no call failed.
+  pub record IsCheckpointed (history : M → Option History) (faults write_faults : M → ℕ)
+      (old new : StoreValue M) (used : ℕ) : Type 0 where
     pub within : used ≤ length old.clean
     pub is : new ≡ renewed old new
     pub tidy : IsTidy new
+    pub at : new.log.at ≡ restarted_at new.log.rec
+    pub rec : IsRecordBehind (layout old) old.log.at old.clean (drop used old.clean) (given_of old)
+        (table_blocks (layout old)) new.log.rec
     pub succeeded : Succeeded history faults write_faults old.log new.log
     pub over : Ends (history old.log.machine) (history new.log.machine) (GoesOnOver old new)
 
@@ -113,14 +117,17 @@ module _ {M : Type 0} where
   abbrev pub KeepsButLog : StoreValue M → StoreValue M → Type 0
   KeepsButLog old new = new ≡ record old { log = new.log }
 
-  -- How the writing of a checkpoint ends.
-  abbrev pub CheckpointEndsIn : (M → Option History) → (M → ℕ) → (M → ℕ) → StoreValue M → StoreValue M → UnitAnswer → Type 0
-  CheckpointEndsIn history faults write_faults old new (answer.Written used) = HasTableRoom old
-      × IsCheckpointed history faults write_faults old new used
-  CheckpointEndsIn history faults write_faults old new answer.LogFull = (¬ HasTableRoom old) × (new ≡ old)
-  CheckpointEndsIn history faults write_faults old new answer.DiskFault = HasTableRoom old
-      × Failed faults write_faults old.log new.log × KeepsButLog old new
-  CheckpointEndsIn history faults write_faults old new answer.Memory = new ≡ old
+  -- How a checkpoint in the reserve ends. The log is full exactly where there are too few clean segments for the table blocks,
+  -- and nothing was written then.
+  abbrev pub CheckpointEndsInReserve : (M → Option History) → (M → ℕ) → (M → ℕ) → StoreValue M
+      → StoreValue M → UnitAnswer → Type 0
+  CheckpointEndsInReserve history faults write_faults old new (answer.Written used) =
+      HasTableRoom old × IsCheckpointed history faults write_faults old new used
+  CheckpointEndsInReserve history faults write_faults old new answer.LogFull =
+      (¬ HasTableRoom old) × (new ≡ old)
+  CheckpointEndsInReserve history faults write_faults old new answer.DiskFault =
+      HasTableRoom old × Failed faults write_faults old.log new.log × KeepsButLog old new
+  CheckpointEndsInReserve history faults write_faults old new answer.Memory = new ≡ old
 
   -- How a checkpoint ends. The log is full exactly where fewer than six segments are clean or too few for the table blocks,
   -- and nothing was written then.

@@ -61,13 +61,14 @@ module _ {M : Type 0} where
     pub dirty : dirty_of new ≡ dirty_of old
     pub blocks : new.overlay.blocks ≡ old.overlay.blocks
 
-  -- a line holds the segment of this serial, and its block there has these bytes
+  -- a line holds the segment of this serial, and the block of the line at this position has these bytes
   pub record IsInLine (v : StoreValue M) (s : MachineState) (serial position : ℕ)
       (bytes : List ℕ) : Type 0 where
     pub tseg : ℕ
     pub holds : HoldsSerial (slot_at v.tables.slots tseg) serial
     pub line : ℕ
     pub held : line_with v.lines.states tseg ≡ Some line
+    pub within : position < (layout v).k
     pub bytes_are : s.content (line_start (layout v) line + position) ≡ bytes
 
   -- the slot holds the segment of this serial, and no line does

@@ -7,7 +7,7 @@ use Rattle.hl_inode.specs.declared.inode.Kind.TheVariants.{Dir}
 use Rattle.hl_log.specs.Cut.{HasClean}
 use Rattle.hl_log.specs.Logs.{Failed, Succeeded}
 use Rattle.hl_log.specs.Rest.{Keeps, StopLeaves}
-use Rattle.hl_log.specs.Units.{Numbered}
+use Rattle.hl_log.specs.Units.{GoesOn, Numbered, moved}
 use Rattle.hl_log.specs.declared.unit.UnitAnswer.{UnitAnswer}
 use Rattle.hl_log.specs.declared.unit.UnitAnswer.TheVariants as answer
 use Rattle.hl_paths.specs.Nodes.{FlatNode}
@@ -37,12 +37,13 @@ module _ {M : Type 0} where
     pub sound : HasSound (layout v) image c
     pub listed : HoldsListed (layout v) image c
 
-  -- the image has the nodes that the store has now, behind the same record
+  -- the image has the nodes and the slots that the store has now, behind the same record
   pub record HoldsNow (v : StoreValue M) (c : Contents) (image : Image) : Type 0 where
     pub contents : Contents
     pub holds : Holds v contents image
     pub rec : contents.rec ≡ c.rec
     pub nodes : contents.nodes ≡ nodes_of v c
+    pub slots : contents.tables.slots ≡ v.tables.slots
 
   -- the image has the contents of the last unit, or the nodes that the store has now
   abbrev pub HoldsEither : StoreValue M → Contents → Image → Type 0
@@ -77,7 +78,8 @@ module _ {M : Type 0} where
   abbrev pub IsShort : StoreValue M → Type 0
   IsShort v = (length v.clean < 6) ⊎ (¬ HasUnitRoom v)
 
-  -- The unit was written, with so many of the clean segments: nothing is drafted or noted, and no call failed.
+  -- The unit was written, with so many of the clean segments: nothing is drafted or noted, the log goes on behind the parts of
+  -- its blocks and changes under the same record, and no call failed.
   pub record IsFlushed (history : M → Option History) (faults write_faults : M → ℕ)
       (old new : StoreValue M) (used : ℕ) : Type 0 where
     pub within : used ≤ length old.clean
@@ -91,6 +93,11 @@ module _ {M : Type 0} where
     pub slots : new.tables.slots ≡ old.tables.slots
     pub serial : new.tseg_serial ≡ old.tseg_serial
     pub buffer : new.has_buffer ≡ old.has_buffer
+    pub rec : new.log.rec ≡ old.log.rec
+    pub at : new.log.at ≡ moved old.log.at new.log.at.head new.log.at.serial
+    pub goes_on : GoesOn (layout old) old.log.at old.clean (unit_blocks old.overlay)
+        (length (unit_changes old.overlay old.notes)) new.log.at.head new.log.at.serial
+        (drop used old.clean)
     pub succeeded : Succeeded history faults write_faults old.log new.log
     pub over : Ends (history old.log.machine) (history new.log.machine) (FlushesAll old new)
 

@@ -158,7 +158,7 @@ struct Supplies {
 
 impl<M: Machine> Store<M> {
     ghost use Rattle.hl_store.specs.Values.{IsTidy, layout};
-    ghost use Rattle.hl_store.specs.Checkpointing.{CheckpointEnds, CheckpointEndsIn};
+    ghost use Rattle.hl_store.specs.Checkpointing.{CheckpointEnds, CheckpointEndsInReserve};
     ghost use Rattle.hl_store.specs.Checkpointing.{AreSupplies, KeepsContents, given_of};
 
     /// What the next record is to have besides its number, its place and its tables. A serial of 0, which no image gives,
@@ -205,7 +205,8 @@ impl<M: Machine> Store<M> {
             (KeepsContents self.old) }
         ensures silent { Runs (M.history self.old.log.machine)
             (M.history self.new.log.machine) SaysNothing }
-        ensures ends { CheckpointEndsIn M.history M.faults M.write_faults self.old self.new result }
+        ensures ends { CheckpointEndsInReserve M.history M.faults M.write_faults
+            self.old self.new result }
         ensures geometry { self.new.log.geometry ≡ self.old.log.geometry }
         ensures blocks { M.blocks self.new.log.machine ≡ M.blocks self.old.log.machine }
         ensures faults { M.faults self.old.log.machine ≤ M.faults self.new.log.machine }
@@ -238,12 +239,38 @@ impl<M: Machine> Store<M> {
         answer
     }
 
-    /// Writes the tables and the next record, where nothing is dirty or noted. The tables mark the log segments that have a
-    /// live block. A stop at any moment leaves the contents as they were or the same nodes behind the next record, and no
-    /// block differs but those that are free for the log and the two of the records. After `Written` the clean segments are
-    /// those of the log without a live block but the head's, in rising order. `LogFull` comes exactly where fewer than six
-    /// segments are clean or too few for the table blocks; nothing is written then. After `DiskFault` the log is not to be
-    /// written again. Memory is taken before the first device call.
+    /// Writes the tables and the next record, where nothing is dirty or noted, with the clean segments of the reserve too: so
+    /// a mount and a pass write theirs. The tables mark the log segments that have a live block. A stop at any moment leaves
+    /// the contents as they were or the same nodes behind the next record, and no block differs but those that are free for
+    /// the log and the two of the records. After `Written` the clean segments are those of the log without a live block but
+    /// the head's, in rising order. `LogFull` comes exactly where there are too few clean segments for the table blocks;
+    /// nothing is written then. After `DiskFault` the log is not to be written again. Memory is taken before the first device
+    /// call.
+    pub fn checkpoint_in_reserve(&mut self, alloc: Global) -> UnitAnswer
+        requires { IsTidy self.old }
+        ensures crash { Runs (M.history self.old.log.machine) (M.history self.new.log.machine)
+            (KeepsContents self.old) }
+        ensures silent { Runs (M.history self.old.log.machine)
+            (M.history self.new.log.machine) SaysNothing }
+        ensures ends { CheckpointEndsInReserve M.history M.faults M.write_faults
+            self.old self.new result }
+        ensures geometry { self.new.log.geometry ≡ self.old.log.geometry }
+        ensures blocks { M.blocks self.new.log.machine ≡ M.blocks self.old.log.machine }
+        ensures faults { M.faults self.old.log.machine ≤ M.faults self.new.log.machine }
+        ensures write_faults { M.write_faults self.old.log.machine
+            ≤ M.write_faults self.new.log.machine }
+        ensures say_faults { M.say_faults self.new.log.machine
+            ≡ M.say_faults self.old.log.machine }
+    {
+        match self.supplies(alloc) {
+            Err(AllocError) => UnitAnswer::Memory,
+            Ok(supplies) => self.write_checkpoint(alloc, supplies),
+        }
+    }
+
+    /// Writes a checkpoint as [`checkpoint_in_reserve`](Self::checkpoint_in_reserve) does, but leaves the reserve alone:
+    /// `LogFull` comes exactly where fewer than six segments are clean or too few for the table blocks; nothing is written
+    /// then.
     pub fn checkpoint(&mut self, alloc: Global) -> UnitAnswer
         requires { IsTidy self.old }
         ensures crash { Runs (M.history self.old.log.machine) (M.history self.new.log.machine)
@@ -262,9 +289,6 @@ impl<M: Machine> Store<M> {
         if self.clean().len() < CLEAN_MIN {
             return UnitAnswer::LogFull;
         }
-        match self.supplies(alloc) {
-            Err(AllocError) => UnitAnswer::Memory,
-            Ok(supplies) => self.write_checkpoint(alloc, supplies),
-        }
+        self.checkpoint_in_reserve(alloc)
     }
 }

@@ -9,7 +9,7 @@ use Rattle.hl_tables.specs.Values.{TableValues}
 use Rattle.hl_nodes.specs.Rooms.{AreCleanAtMount}
 use Rattle.hl_nodes.specs.Sound.{head_of}
 use Rattle.hl_census.specs.Clearing.{AreEmptyBelow}
-use Rattle.hl_census.specs.Covering.{IsCovered}
+use Rattle.hl_nodes.specs.Covering.{IsCovered}
 use Rattle.hl_census.specs.Living.{AreLive}
 use Rattle.hl_census.proofs.CleanSegments.{clean_at_mount, clean_in_log}
 use Rattle.hl_census.proofs.clearing.clean.Goals as goal

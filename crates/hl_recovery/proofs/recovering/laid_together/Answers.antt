@@ -23,6 +23,9 @@ lay_parts-requires-clause-parts c =
     subst (All (MayBeLaid c.args.tables)) (c.requires.chain.places ∙ sym c.as_slice.ensures.value)
     (parts_may site.geometry c.args.tables c.requires.tables.shape is.limits (start_of site.rec) (parts_found chain) is.start c.requires.chain.summaries)
 
+pub are_of_site-requires : goal.are_of_site-requires
+are_of_site-requires c = same_shape-then (fresh c.args.site.geometry) c.args.tables c.lay_parts.new.tables c.requires.tables.shape c.lay_parts.ensures.shape
+
 pub covered_segments-requires-clause-parts : goal.covered_segments-requires-clause-parts
 covered_segments-requires-clause-parts c =
     let site = c.args.site in
@@ -43,7 +46,8 @@ returns-clause-ready c = λ blocks rack is same.
       head = subst (IsLogPlace site.geometry) (sym c.requires.chain.at_is) place;
       segments = c.in_ok-covered.ensures.size;
       tseg_serial = omega (arith, is.tseg_serial, c.raised_behind-tseg_serial.ensures, parts_raise_to site.rec.tseg_serial (parts_found c.as_slice-3.result.now));
-      shape = same_shape-then (fresh site.geometry) c.args.tables c.lay_parts.new.tables c.requires.tables.shape c.lay_parts.ensures.shape;
+      blocks_named = is.tables;
+      tables = c.are_of_site.ensures;
     }
 
 pub returns-clause-recovered : goal.returns-clause-recovered

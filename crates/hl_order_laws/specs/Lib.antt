@@ -1,0 +1,2 @@
+pub mod LastBlocks
+pub mod GoingOn
