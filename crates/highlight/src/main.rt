@@ -10,8 +10,6 @@ mod making;
 mod mounted;
 mod run;
 mod served;
-#[cfg(test)]
-mod tests;
 mod top;
 mod turn;
 

@@ -11,6 +11,3 @@ pub use geometry::Geometry;
 pub use limits::{is_within_limits, table_blocks_for};
 pub use numbers::Numbers;
 pub use place::{NOTHING, Place};
-
-#[cfg(test)]
-mod tests;

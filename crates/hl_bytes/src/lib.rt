@@ -46,6 +46,3 @@ pub use records::{
 
 /// The bytes of a block.
 pub const BLOCK: usize = 4096;
-
-#[cfg(test)]
-mod tests;

@@ -8,6 +8,3 @@ mod writing;
 pub use entry::Entry;
 pub use reading::decode;
 pub use writing::encode;
-
-#[cfg(test)]
-mod tests;

@@ -16,6 +16,3 @@ pub use mounting::{MountError, Mounted, mount};
 pub use place::DISK_BLOCKS;
 pub use record::{DumpRecord, decode_record, encode_record};
 pub use saving::{SaveError, save};
-
-#[cfg(test)]
-mod tests;

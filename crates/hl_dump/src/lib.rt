@@ -13,6 +13,3 @@ pub use calls::growth;
 pub use read::{DUMP_LIMITS, read_dump};
 pub use size::{DUMP_MAX, dump_size};
 pub use write::write_dump;
-
-#[cfg(test)]
-mod tests;

@@ -15,6 +15,3 @@ pub use editing::{insert, remove, replace};
 pub use listing::{count, names};
 pub use place::EntryPlace;
 pub use searching::find;
-
-#[cfg(test)]
-mod tests;

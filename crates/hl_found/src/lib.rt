@@ -7,16 +7,10 @@
 #![tactic(auto)]
 
 mod away;
-#[cfg(test)]
-mod broken;
 mod charges;
 mod contents;
 mod directories;
 mod files;
-#[cfg(test)]
-mod good;
-#[cfg(test)]
-mod hand_made;
 mod live;
 mod newest;
 mod reach;
@@ -26,10 +20,6 @@ mod slots;
 mod soundness;
 mod staged;
 mod tables;
-#[cfg(test)]
-mod tests;
-#[cfg(test)]
-mod verdict;
 
 pub use away::aways_are_apart;
 pub use charges::charge_is_within;

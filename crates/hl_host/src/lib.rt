@@ -15,6 +15,3 @@ pub use machine::FileMachine;
 pub use positional::PositionalFile;
 pub use source::StdSource;
 pub use volume::FileVolume;
-
-#[cfg(test)]
-mod tests;

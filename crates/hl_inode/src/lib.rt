@@ -6,6 +6,3 @@ mod pointers;
 
 pub use inode::{Inode, Kind, decode, encode};
 pub use pointers::{pointer, set_pointer};
-
-#[cfg(test)]
-mod tests;

@@ -8,6 +8,3 @@ mod table;
 
 pub use state::LineState;
 pub use table::LineTable;
-
-#[cfg(test)]
-mod tests;

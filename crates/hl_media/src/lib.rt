@@ -31,6 +31,3 @@ pub use source::Source;
 pub use synced::write_synced;
 pub use volume::Volume;
 pub use written::Written;
-
-#[cfg(test)]
-mod tests;

@@ -10,8 +10,6 @@ mod segment;
 mod source;
 mod tear;
 mod tearing;
-#[cfg(test)]
-mod tests;
 mod transfer;
 mod transfers;
 mod volume;

@@ -15,8 +15,6 @@ pub mod listing_laws;
 mod reading;
 mod rule;
 pub mod rule_laws;
-#[cfg(test)]
-mod tests;
 pub mod unit_laws;
 
 pub use counting::nodes_of;

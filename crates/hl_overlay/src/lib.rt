@@ -17,6 +17,3 @@ pub use drafts::Drafts;
 pub use making::{MadeUnit, used_of};
 pub use overlay::{BlockNow, Overlay};
 pub use pointers::{BLOCKS_MAX, DIRECT, Pointer, Pointers};
-
-#[cfg(test)]
-mod tests;

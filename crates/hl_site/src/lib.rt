@@ -10,6 +10,3 @@ pub use devices::fits;
 pub use error::SiteError;
 pub use key::Key;
 pub use reading::read_site;
-
-#[cfg(test)]
-mod tests;

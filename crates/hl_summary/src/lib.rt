@@ -9,6 +9,3 @@ mod reading;
 pub use parts::{BLOCKS_MAX, Heading, Summary, TABLES_MAX, check, seal, seal_with};
 pub use ranges::{DATA_MAX, INODE, POINTERS, TABLE};
 pub use reading::{block_count, block_record, heading, is_part, table_count, table_record};
-
-#[cfg(test)]
-mod tests;

@@ -7,6 +7,3 @@ mod record;
 
 pub use label::{Label, decode_label, encode_label};
 pub use record::{Record, decode_record, encode_record, newest};
-
-#[cfg(test)]
-mod tests;

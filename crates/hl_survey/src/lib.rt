@@ -9,8 +9,6 @@ pub mod laws;
 mod pointers;
 mod reading;
 mod scan;
-#[cfg(test)]
-mod tests;
 
 pub use found::{FoundInode, SurveyStop};
 pub use scan::survey;

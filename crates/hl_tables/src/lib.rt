@@ -9,6 +9,3 @@ mod tables;
 
 pub use laws::told_by_blocks;
 pub use tables::Tables;
-
-#[cfg(test)]
-mod tests;

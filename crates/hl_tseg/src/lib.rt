@@ -6,6 +6,3 @@ mod table;
 
 pub use slot::Slot;
 pub use table::TsegTable;
-
-#[cfg(test)]
-mod tests;

@@ -8,6 +8,3 @@ mod parts;
 
 pub use lines::{LineView, seal_line};
 pub use parts::PartView;
-
-#[cfg(test)]
-mod tests;
