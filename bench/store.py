@@ -6,7 +6,7 @@ file in a new folder. Beside that the same number of writes of the same number o
 as the store made are made directly of the same kind of disk. Both begin with the first image of a site of 80 log segments,
 and what a run without a block takes is taken off. Each part of the log carries a digest of its blocks, by its format, so the
 time that `sha256sum` takes over as many bytes is told too. It runs the program that `rt ci` or `rt run` leaves in
-crates/hl_store_bench/out/, each run five times, and prints
+crates/hl_bench/out/, each run five times, and prints
 
   - the calls of both;
   - the processor time of both and of the digests, user and system, the least of the five runs;
@@ -37,7 +37,7 @@ def digests(blocks, folder):
 
 def main():
     top = os.path.dirname(os.path.dirname(os.path.abspath(__file__)))
-    ready = os.path.join(top, "crates/hl_store_bench/out/hl_store_bench")
+    ready = os.path.join(top, "crates/hl_bench/out/hl_bench")
     program = os.path.abspath(sys.argv[1] if len(sys.argv) > 1 else ready)
     with tempfile.TemporaryDirectory(dir=top) as folder:
         user, system, (writes, blocks, syncs, reads) = beyond(program, ["store", str(BLOCKS)], ["store", "0"], folder)

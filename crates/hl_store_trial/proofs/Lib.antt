@@ -1,4 +1,0 @@
-pub mod MadeLemmas
-pub mod CleanLemmas
-pub mod PartLemmas
-pub mod UnitLemmas

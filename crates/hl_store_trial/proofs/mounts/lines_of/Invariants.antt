@@ -1,5 +1,0 @@
-use Rattle.std.proofs.Common.{◌≡◌, length}
-use Rattle.hl_store_trial.proofs.mounts.lines_of.Given as goal
-
-abbrev pub invariant-slots : goal.invariant-slots
-invariant-slots l = length l.lines.states ≡ l.site.lines
