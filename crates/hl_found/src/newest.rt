@@ -25,7 +25,7 @@ pub(crate) fn label_of(geometry: &Geometry) -> Label
 
 /// The newest record of the image, of those with the site's label. The image has at least the log's
 /// segments.
-pub(crate) fn newest_record(
+pub fn newest_record(
     alloc: Global,
     image: &[u8],
     geometry: &Geometry,
@@ -40,7 +40,7 @@ pub(crate) fn newest_record(
 }
 
 /// Whether the record has the site's volumes.
-pub(crate) fn has_volumes(rec: &Record, geometry: &Geometry) -> bool
+pub fn has_volumes(rec: &Record, geometry: &Geometry) -> bool
     ensures { IsTrue result ↔ rec.now.volumes ≡ geometry.now.volumes }
 {
     rec.volumes.items() == geometry.volumes.items()

@@ -191,7 +191,7 @@ pub fn plain_bytes(
 }
 
 /// Whether each byte of the node's blocks past its size is zero.
-pub(crate) fn ends_in_zeros(
+pub fn ends_in_zeros(
     staged: &[ShelfSegment],
     shelf: &[ShelfSegment],
     node: &FoundNode,

@@ -54,7 +54,7 @@ fn spelled_tables(
 }
 
 /// The parts of the chain behind a record, each with its place.
-pub(crate) fn chain_of(
+pub fn chain_of(
     alloc: Global,
     image: &[u8],
     geometry: &Geometry,
@@ -86,7 +86,7 @@ fn lay_parts(tables: &mut Tables, chain: &[ChainPart])
 
 /// The tables of the image, by its newest record and the parts of its chain, if its table blocks
 /// spell some.
-pub(crate) fn tables_of(
+pub fn tables_of(
     alloc: Global,
     image: &[u8],
     geometry: &Geometry,
