@@ -1,6 +1,0 @@
-use Rattle.hl_turn.specs.Lock.{IsSeatOf}
-use Rattle.hl_turn_trial.specs.Free.{IsSame}
-use Rattle.hl_turn_trial.proofs.draws.draw_times.Given as goal
-
-abbrev pub invariant-loop-i : goal.invariant-loop-i
-invariant-loop-i g l = IsSeatOf l.turn l.seat × IsSame l.fn.seat l.seat
