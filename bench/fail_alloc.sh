@@ -6,7 +6,7 @@
 # with 1 where a run failed. Past the last allocation of the trial nothing is refused. A run takes half a minute and more.
 #
 #     bench/fail_alloc.sh [FROM [TO]]
-cd "$(dirname "$0")/../crates/hl_store_trial" || exit 2
+cd "$(dirname "$0")/../crates/hl_trial_site" || exit 2
 number=${1:-1}
 last=${2:-60}
 status=0
