@@ -191,11 +191,7 @@ pub fn plain_bytes(
 }
 
 /// Whether each byte of the node's blocks past its size is zero.
-pub fn ends_in_zeros(
-    staged: &[ShelfSegment],
-    shelf: &[ShelfSegment],
-    node: &FoundNode,
-) -> bool
+pub fn ends_in_zeros(staged: &[ShelfSegment], shelf: &[ShelfSegment], node: &FoundNode) -> bool
     requires few { length node.now.blocks.items < 2 ^ 32 }
     ensures { let file = (node_found node.now).content in
         IsTrue result ↔ EndsInZeros (at_hand staged.now shelf.now) file }
