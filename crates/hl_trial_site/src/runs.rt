@@ -157,6 +157,18 @@ fn said_by(calls: u64, start: u64, steps: &[Step]) -> (usize, usize) {
     (kept, said)
 }
 
+/// An image holds the tree of one of these places.
+fn holds(
+    rt: &impl Abort,
+    alloc: Global,
+    image: &[u8],
+    (least, most): (usize, usize),
+    texts: &[&[u8]],
+) -> Result<bool, Fail> {
+    let place = listed(rt, alloc, image, texts)?;
+    Ok(least <= place && place <= most)
+}
+
 /// Every image that a stop may leave since the first line holds the files after some number of the lines: no fewer than up
 /// to the last that was kept and said by then, and no more than were said. Each of these trees is another.
 fn stops(
@@ -168,11 +180,10 @@ fn stops(
 ) -> Result<(), Fail> {
     for moment in 0..=machine.now() {
         if moment / 2 >= start {
-            let (least, most) = said_by(moment / 2, start, steps);
+            let places = said_by(moment / 2, start, steps);
             for tear in [Tear::Old, Tear::New, Tear::Prefix(100), Tear::Prefix(2048)] {
                 let image = image_at(alloc, machine, moment, tear)?;
-                let place = listed(rt, alloc, &image, texts)?;
-                assert!(rt; least <= place && place <= most, "moment {moment}");
+                assert!(rt; holds(rt, alloc, &image, places, texts)?, "moment {moment}");
             }
         }
     }
@@ -185,41 +196,65 @@ fn calls_before_lines(rt: &impl Abort, alloc: Global) -> Result<u64, Fail> {
     Ok((empty.now() / 2).saturating_sub(4))
 }
 
-#[test]
-fn a_later_run_finds_what_an_earlier_one_left(rt: HostRuntime) -> Result<(), Fail> {
-    let alloc = rt.alloc();
-    let mut long = Vec::from_slice(alloc, b"create /c\n")?;
-    long.resize(140_011, b'x')?;
-    let mut many = Vec::from_slice(alloc, b"create /e\n")?;
-    many.resize(70, b' ')?;
-    let day: &[u8] = b"mkdir /d\ncreate /d/n\nwrite /d/n 0 6869\nrename /d/n /d/m\n";
-    let rows: [(&[u8], u64, u8, &[u8]); 5] = [
-        (day, 0, 0, b"ok\nok\nok\nok\n"),
-        (b"create /b\n?\n", 0, 3, b"ok\nbad line 2\n"),
-        (&long, 0, 10, b"ok\n"),
-        (&many, 2, 7, b"ok\n"),
+/// A run: what its input begins with, how many of which byte follow, which read of it fails (0 is none), the status, and what
+/// is said.
+type Run = (&'static [u8], usize, u8, u64, u8, &'static [u8]);
+
+/// Runs one after another on one disk.
+fn days() -> [Run; 5] {
+    [
+        (
+            b"mkdir /d\ncreate /d/n\nwrite /d/n 0 6869\nrename /d/n /d/m\nlist /d\nsync\nread /d/m 0 9\n",
+            0,
+            0,
+            0,
+            0,
+            b"ok\nok\nok\nok\nnames m\nok\ndata 6869\n",
+        ),
+        (b"create /b\n?\n", 0, 0, 0, 3, b"ok\nbad line 2\n"),
+        (b"create /c\n", 140_001, b'x', 0, 10, b"ok\n"),
+        (b"create /e\n", 60, b' ', 2, 7, b"ok\n"),
         (
             b"list /\nread /d/m 0 9\n",
             0,
             0,
+            0,
+            0,
             b"names b c d e\ndata 6869\n",
         ),
-    ];
+    ]
+}
+
+/// Does one of these runs.
+fn did(
+    rt: &impl Abort,
+    alloc: Global,
+    machine: MemMachine,
+    (script, more, filler, failing, status, says): Run,
+) -> Result<MemMachine, Fail> {
+    let mut input = Vec::from_slice(alloc, script)?;
+    input.resize(script.len().saturating_add(more), filler)?;
+    let input = source(alloc, &input, 64, failing)?;
+    called(rt, alloc, &["run"], input, machine, (status, says))
+}
+
+#[test]
+fn a_later_run_finds_what_an_earlier_one_left(rt: HostRuntime) -> Result<(), Fail> {
+    let alloc = rt.alloc();
     let mut machine = made(&rt, alloc)?;
-    for (input, failing, status, text) in rows {
-        let input = source(alloc, input, 64, failing)?;
-        machine = called(&rt, alloc, &["run"], input, machine, (status, text))?;
+    for run in days() {
+        machine = did(&rt, alloc, machine, run)?;
     }
     Ok(())
 }
 
-#[test]
-fn each_failing_device_has_its_status(rt: HostRuntime) -> Result<(), Fail> {
-    let alloc = rt.alloc();
-    let start = calls_before_lines(&rt, alloc)?;
-    // A line is one call, and a sync five, of which the last says its answer. Each read of the input takes ten bytes.
-    let script = b"create /a\nsync\ncreate /b\n";
-    let rows: [(u64, u64, u8, &[u8]); 11] = [
+/// A device that fails: which call of the machine since the first line, which read of the input, where 0 is none, the status,
+/// and what is said.
+type Failure = (u64, u64, u8, &'static [u8]);
+
+/// A line is one call, and a sync five, of which the last says its answer. Each read of the input takes ten bytes.
+fn failures() -> [Failure; 11] {
+    [
         (0, 0, 0, b"ok\nok\nok\n"),
         (0, 1, 7, b""),
         (0, 2, 7, b"ok\n"),
@@ -231,14 +266,62 @@ fn each_failing_device_has_its_status(rt: HostRuntime) -> Result<(), Fail> {
         (6, 0, 6, b"ok\no"),
         (7, 0, 6, b"ok\nok\no"),
         (8, 0, 5, b"ok\nok\nok\n"),
-    ];
-    for (call, read, status, text) in rows {
-        let mut machine = made(&rt, alloc)?;
-        if call > 0 {
-            machine.fail_call(alloc, start.saturating_add(call))?;
-        }
-        let input = source(alloc, script, 10, read)?;
-        called(&rt, alloc, &["run"], input, machine, (status, text))?;
+    ]
+}
+
+/// Makes the call of this number since the first line fail, and 0 is none.
+fn fail_line(
+    alloc: Global,
+    machine: &mut MemMachine,
+    start: u64,
+    call: u64,
+) -> Result<(), AllocError> {
+    if call > 0 {
+        machine.fail_call(alloc, start.saturating_add(call))?;
+    }
+    Ok(())
+}
+
+/// A run over a device that fails so.
+fn failed(
+    rt: &impl Abort,
+    alloc: Global,
+    start: u64,
+    (call, read, status, says): Failure,
+) -> Result<(), Fail> {
+    let mut machine = made(rt, alloc)?;
+    fail_line(alloc, &mut machine, start, call)?;
+    let input = source(alloc, b"create /a\nsync\ncreate /b\n", 10, read)?;
+    called(rt, alloc, &["run"], input, machine, (status, says))?;
+    Ok(())
+}
+
+#[test]
+fn each_failing_device_has_its_status(rt: HostRuntime) -> Result<(), Fail> {
+    let alloc = rt.alloc();
+    let start = calls_before_lines(&rt, alloc)?;
+    for failure in failures() {
+        failed(&rt, alloc, start, failure)?;
+    }
+    Ok(())
+}
+
+/// A run that mounts a disk with one file, where the read of this number fails.
+fn failed_to_mount(rt: &impl Abort, alloc: Global, read: u64) -> Result<(), Fail> {
+    let disk = ran(rt, alloc, made(rt, alloc)?, b"create /a\n", (0, b"ok\n"))?;
+    let image = image_at(alloc, &disk, disk.now(), Tear::Old)?;
+    let mut machine = machine_of(alloc, &image)?;
+    machine.fail_call(alloc, read)?;
+    ran(rt, alloc, machine, b"list /\n", (5, b""))?;
+    Ok(())
+}
+
+/// Of the label, the two records and the dump.
+#[test]
+fn each_failing_read_of_the_mount_ends_the_run(rt: HostRuntime) -> Result<(), Fail> {
+    let alloc = rt.alloc();
+    for read in 1..5 {
+        failed_to_mount(&rt, alloc, read)?;
     }
     Ok(())
 }
@@ -248,7 +331,7 @@ fn a_disk_that_fails_keeps_what_was_synced(rt: HostRuntime) -> Result<(), Fail> 
     let alloc = rt.alloc();
     let start = calls_before_lines(&rt, alloc)?;
     let mut machine = made(&rt, alloc)?;
-    machine.fail_call(alloc, start.saturating_add(8))?;
+    fail_line(alloc, &mut machine, start, 8)?;
     let script = b"create /a\nsync\ncreate /b\nsync\nlist /\n";
     let want = b"ok\nok\nok\nerr EIO\n";
     let machine = ran(&rt, alloc, machine, script, (5, want))?;
@@ -284,6 +367,17 @@ fn is_labelled(image: &[u8]) -> bool {
         && image.get(4064..4068) != Some([0; 4].as_slice())
 }
 
+/// An image that a stop of `mkfs` left has no label, or it is mounted and holds the root alone; whether it is mounted.
+fn is_mounted_or_blank(rt: &impl Abort, alloc: Global, image: &[u8]) -> Result<bool, Fail> {
+    if is_labelled(image) {
+        assert!(rt; listed(rt, alloc, image, &[b"names\n"])? == 0);
+        return Ok(true);
+    }
+    let machine = machine_of(alloc, image)?;
+    ran(rt, alloc, machine, b"", (4, b"no label\n"))?;
+    Ok(false)
+}
+
 #[test]
 fn a_stop_of_mkfs_leaves_no_label_or_the_root(rt: HostRuntime) -> Result<(), Fail> {
     let alloc = rt.alloc();
@@ -292,12 +386,8 @@ fn a_stop_of_mkfs_leaves_no_label_or_the_root(rt: HostRuntime) -> Result<(), Fai
     for moment in 0..=disk.now() {
         for tear in [Tear::Old, Tear::New, Tear::Prefix(100), Tear::Filled(255)] {
             let image = image_at(alloc, &disk, moment, tear)?;
-            if is_labelled(&image) {
-                assert!(rt; listed(&rt, alloc, &image, &[b"names\n"])? == 0);
+            if is_mounted_or_blank(&rt, alloc, &image)? {
                 mounted = moment;
-            } else {
-                let machine = machine_of(alloc, &image)?;
-                ran(&rt, alloc, machine, b"", (4, b"no label\n"))?;
             }
         }
     }
@@ -305,23 +395,33 @@ fn a_stop_of_mkfs_leaves_no_label_or_the_root(rt: HostRuntime) -> Result<(), Fai
     Ok(())
 }
 
-#[test]
-fn a_disk_is_refused_by_name(rt: HostRuntime) -> Result<(), Fail> {
-    let alloc = rt.alloc();
-    for word in ["mkfs", "run"] {
-        let machine = MemMachine::new(alloc, BLOCKS - 1)?;
-        let input = source(alloc, b"", 1, 0)?;
-        let want: (u8, &[u8]) = (9, b"bad site small 2112\n");
-        called(&rt, alloc, &[word], input, machine, want)?;
-    }
-    let blank = MemMachine::new(alloc, BLOCKS)?;
-    ran(&rt, alloc, blank, b"", (4, b"no label\n"))?;
-    let disk = made(&rt, alloc)?;
+/// A command over a disk of one block too few.
+fn is_too_small(rt: &impl Abort, alloc: Global, word: &str) -> Result<(), Fail> {
+    let machine = MemMachine::new(alloc, BLOCKS - 1)?;
+    let input = source(alloc, b"", 1, 0)?;
+    let want = (9, b"bad site small 2112\n".as_slice());
+    called(rt, alloc, &[word], input, machine, want)?;
+    Ok(())
+}
+
+/// A new disk with one byte of its only record changed.
+fn with_a_changed_record(rt: &impl Abort, alloc: Global) -> Result<MemMachine, Fail> {
+    let disk = made(rt, alloc)?;
     let mut image = image_at(alloc, &disk, disk.now(), Tear::Old)?;
     if let Some(byte) = image.as_mut_slice().get_mut(4096 + 20) {
         *byte ^= 1;
     }
-    let changed = machine_of(alloc, &image)?;
+    Ok(machine_of(alloc, &image)?)
+}
+
+#[test]
+fn a_disk_is_refused_by_name(rt: HostRuntime) -> Result<(), Fail> {
+    let alloc = rt.alloc();
+    is_too_small(&rt, alloc, "mkfs")?;
+    is_too_small(&rt, alloc, "run")?;
+    let blank = MemMachine::new(alloc, BLOCKS)?;
+    ran(&rt, alloc, blank, b"", (4, b"no label\n"))?;
+    let changed = with_a_changed_record(&rt, alloc)?;
     ran(&rt, alloc, changed, b"", (4, b"no record\n"))?;
     Ok(())
 }
@@ -343,14 +443,21 @@ fn a_line_has_140000_bytes_at_most_and_a_read_gives_32768(rt: HostRuntime) -> Re
     Ok(())
 }
 
+/// The usage line answers these words.
+fn is_no_form(rt: &impl Abort, alloc: Global, words: &[&str]) -> Result<(), Fail> {
+    let usage = b"usage: highlight mkfs | run | check | make SEED COUNT | crew\n".as_slice();
+    let machine = MemMachine::new(alloc, 0)?;
+    let input = source(alloc, b"", 1, 0)?;
+    called(rt, alloc, words, input, machine, (2, usage))?;
+    Ok(())
+}
+
 #[test]
 fn other_words_are_answered_by_the_usage_line(rt: HostRuntime) -> Result<(), Fail> {
     let alloc = rt.alloc();
-    let usage: &[u8] = b"usage: highlight mkfs | run | check | make SEED COUNT | crew\n";
     let rows: [&[&str]; 4] = [&[], &["check"], &["run", "run"], &["--help"]];
-    for row in rows {
-        let input = source(alloc, b"", 1, 0)?;
-        called(&rt, alloc, row, input, MemMachine::new(alloc, 0)?, (2, usage))?;
+    for words in rows {
+        is_no_form(&rt, alloc, words)?;
     }
     Ok(())
 }
