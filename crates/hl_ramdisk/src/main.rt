@@ -16,8 +16,8 @@ use std::process::ExitCode;
 /// The blocks of the disk, as many as one needs.
 const BLOCKS: u32 = 2112;
 
-/// Makes a disk as `highlight mkfs` does, does the script on standard input as `highlight run` does, and ends with the status of
-/// the run; with that of making the disk where it isn't made, and with 8 where there is no memory to begin.
+/// Makes a disk as `highlight mkfs` does, and does the script on standard input as `highlight run` does. Ends with the
+/// status of the run, with that of making the disk where it isn't made, and with 8 where there is no memory to begin.
 fn main(rt: HostRuntime) -> ExitCode {
     match status(rt) {
         Ok(status) => ExitCode::from(status),
