@@ -1,26 +1,16 @@
 //! `highlight`: a log-structured file system whose cold data lives on a jukebox of removable volumes.
 #![tactic(auto)]
 
-mod answering;
-mod command;
 mod disk;
-mod end;
-mod ended;
-mod making;
-mod mounted;
-mod run;
-mod served;
-mod top;
-mod turn;
 
 use disk::open_disk;
 use hl_host::{FileMachine, FileVolume, StdClock, StdSource};
 use hl_media::Rack;
+use hl_run::highlight;
 use std::alloc::AllocError;
 use std::fs::File;
 use std::process::ExitCode;
 use std::{env, io};
-use top::highlight;
 
 /// Does what the words after the program's name say, over the file
 /// `disk.img` of the current folder, the standard streams and the system's clock, and ends with

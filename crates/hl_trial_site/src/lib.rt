@@ -1,4 +1,5 @@
-//! Tests of the log, of new sites, of the store and of the file calls over it, on disks in memory.
+//! Tests of the log, of new sites, of the store, of the file calls over it, and of whole runs of the program, over devices in
+//! memory.
 #![tactic(auto)]
 
 #[cfg(test)]
@@ -7,5 +8,7 @@ mod files;
 mod logs;
 #[cfg(test)]
 mod mkfs;
+#[cfg(test)]
+mod runs;
 #[cfg(test)]
 mod stores;

@@ -1,9 +1,0 @@
-use Rattle.std.proofs.Common.{string_bytes}
-use Rattle.std.specs.Prelude.{codes}
-use Rattle.highlight.proofs.OneWord.{one_word}
-use Rattle.highlight.proofs.command.is_mkfs.Goals as goal
-
-pub returns-in-len1 : goal.returns-in-len1
-returns-in-len1 c =
-    one_word string_bytes c.args.words.now c.word-item.result c.as_str.result.now (codes "mkfs") c.eq.result
-    c.in-len1.len_at_least c.in-len1.len_below c.word-item.is c.as_str.ensures.value c.eq.ensures
