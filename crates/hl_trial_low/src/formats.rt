@@ -16,33 +16,28 @@ fn holds(bytes: &[u8], at: usize, want: &[u8]) -> bool {
     at <= bytes.len() && want.len() <= bytes.len() - at && hl_bytes::has_bytes(bytes, at, want)
 }
 
-/// Puts the fields of a test page into the first block.
-fn put_fields(bytes: &mut [u8; 2 * BLOCK]) {
-    hl_bytes::put_bytes(bytes, 0, b"HLTEST01");
-    hl_bytes::put_u32(bytes, 8, 7);
+/// A test page, whose digest is that of its block alone.
+fn page() -> [u8; BLOCK] {
+    let mut block = [9; BLOCK];
+    hl_bytes::put_bytes(&mut block, 0, b"HLTEST01");
+    hl_bytes::put_u32(&mut block, 8, 7);
+    hl_bytes::end_page(&mut block, 12);
+    block
 }
 
-/// The first four bytes of the digests of a test page: of the block alone, and over a block of zeros
-/// behind it; and whether a changed byte ends each.
-fn digests() -> ([u8; 4], [u8; 4], bool) {
+/// A test page, whose digest goes on over a block of zeros behind it.
+fn page_over() -> [u8; 2 * BLOCK] {
     let mut part = [0; 2 * BLOCK];
-    put_fields(&mut part);
+    hl_bytes::put_bytes(&mut part, 0, b"HLTEST01");
+    hl_bytes::put_u32(&mut part, 8, 7);
     hl_bytes::end_page_over(&mut part, 12);
-    let over = [part[4_064], part[4_065], part[4_066], part[4_067]];
-    let first = &mut part[..BLOCK];
-    hl_bytes::end_page(first, 12);
-    let alone = [first[4_064], first[4_065], first[4_066], first[4_067]];
-    let stood = hl_bytes::is_page_over(first, 12);
-    first[100] = 1;
-    (alone, over, stood && !hl_bytes::is_page_over(first, 12))
+    part
 }
 
 #[test]
 fn a_page_ends_with_its_digest(rt: HostRuntime) {
-    let (alone, over, is_tested) = digests();
-    assert!(rt; alone == [99, 196, 135, 104]);
-    assert!(rt; over == [140, 138, 10, 247]);
-    assert!(rt; is_tested);
+    assert!(rt; holds(&page(), 4_064, b"\x63\xc4\x87\x68"));
+    assert!(rt; holds(&page_over(), 4_064, b"\x8c\x8a\x0a\xf7"));
 }
 
 /// The longest file, with its other fields at the ends of their ranges.
@@ -201,25 +196,32 @@ fn a_record_has_its_bytes(rt: HostRuntime) -> Result<(), Fail> {
     Ok(())
 }
 
-/// A segment of serial 7 with two data blocks, 1 and 2 in their first bytes, and a block of zeros.
+/// The digest of that segment.
+const DIGEST: &[u8; 32] =
+    b"\x7e\x64\x3c\xd4\xa6\xc2\x41\x5d\x7a\x6e\xd8\x79\xc6\x78\xbf\xf4\x34\xad\x53\x17\x99\x41\x66\x65\x17\x77\xa1\x3a\x17\x39\xf9\xbc";
+
+/// The four blocks of a segment of serial 7 with two data blocks, 1 and 2 in their first bytes.
+fn segment_bytes() -> [u8; 4 * BLOCK] {
+    let mut bytes = [0; 4 * BLOCK];
+    hl_bytes::put_bytes(
+        &mut bytes,
+        0,
+        b"HLTERT01\x07\0\0\0\0\0\0\0\x02\0\0\0\0\0\0\0",
+    );
+    hl_bytes::put_bytes(
+        &mut bytes,
+        24,
+        b"\xff\x01\0\0\x0b\x04\0\0\x03\0\0\0\xfd\xff\xff\xff",
+    );
+    hl_bytes::put_bytes(&mut bytes, 4_064, DIGEST);
+    bytes[BLOCK] = 1;
+    bytes[2 * BLOCK] = 2;
+    bytes
+}
+
 fn segment(alloc: Global) -> Result<SegBuf, AllocError> {
     let mut buf = SegBuf::new(alloc, 4)?;
-    if buf.blocks() == 4 {
-        let bytes = buf.part_mut(0, 4);
-        hl_bytes::put_bytes(bytes, 0, b"HLTERT01\x07\0\0\0\0\0\0\0\x02\0\0\0\0\0\0\0");
-        hl_bytes::put_bytes(
-            bytes,
-            24,
-            b"\xff\x01\0\0\x0b\x04\0\0\x03\0\0\0\xfd\xff\xff\xff",
-        );
-        hl_bytes::put_bytes(
-            bytes,
-            4_064,
-            b"\x7e\x64\x3c\xd4\xa6\xc2\x41\x5d\x7a\x6e\xd8\x79\xc6\x78\xbf\xf4\x34\xad\x53\x17\x99\x41\x66\x65\x17\x77\xa1\x3a\x17\x39\xf9\xbc",
-        );
-        bytes[BLOCK] = 1;
-        bytes[2 * BLOCK] = 2;
-    }
+    buf.part_mut(0, 4).copy_from_slice(&segment_bytes());
     Ok(buf)
 }
 

@@ -18,9 +18,11 @@ fn class(site: &Geometry, addr: u32) -> Place {
 
 /// The address of the place that the address has, where it isn't dead.
 fn back(site: &Geometry, addr: u32) -> Option<u32> {
-    match site.class(addr) {
-        Place::Dead => None,
-        place => Some(site.address_of(&place)),
+    let place = site.class(addr);
+    if place != Place::Dead {
+        Some(site.address_of(&place))
+    } else {
+        None
     }
 }
 

@@ -15,10 +15,6 @@ fn site(alloc: Global) -> Result<Geometry, Fail> {
 
 const LAST_SERIAL: u64 = 18_446_744_073_709_551_615;
 
-fn change(kind: u32, a: u32, b: u32, serial: u64) -> TableRecord {
-    TableRecord { kind, a, b, serial }
-}
-
 /// Part 9 with a data block, a table block and a change of each kind, each at the ends of its
 /// ranges; it ends its unit. Its data blocks are filled with 7.
 fn ninth() -> [u8; 3 * BLOCK] {
@@ -37,11 +33,36 @@ fn ninth() -> [u8; 3 * BLOCK] {
         index: 4_294_967_293,
     };
     let changes = [
-        change(1, 511, 0, 0),
-        change(2, 7, 4_294_967_295, LAST_SERIAL),
-        change(3, 7, 0, LAST_SERIAL),
-        change(4, 7, 0, 0),
-        change(5, 1, 0, 0),
+        TableRecord {
+            kind: 1,
+            a: 511,
+            b: 0,
+            serial: 0,
+        },
+        TableRecord {
+            kind: 2,
+            a: 7,
+            b: 4_294_967_295,
+            serial: LAST_SERIAL,
+        },
+        TableRecord {
+            kind: 3,
+            a: 7,
+            b: 0,
+            serial: LAST_SERIAL,
+        },
+        TableRecord {
+            kind: 4,
+            a: 7,
+            b: 0,
+            serial: 0,
+        },
+        TableRecord {
+            kind: 5,
+            a: 1,
+            b: 0,
+            serial: 0,
+        },
     ];
     let mut bytes = [7; 3 * BLOCK];
     hl_summary::seal_with(heading, &[data, table], &changes, &mut bytes);
@@ -99,6 +120,20 @@ fn a_part_has_its_bytes(rt: HostRuntime) -> Result<(), Fail> {
     Ok(())
 }
 
+/// Seals a part over the blocks at the front of the bytes, and says whether they have room for it.
+fn seal_front(heading: Heading, blocks: &[BlockRecord], bytes: &mut [u8]) -> bool {
+    if 240 < blocks.len() || bytes.len() < BLOCK * (1 + blocks.len()) {
+        return false;
+    }
+    hl_summary::seal_with(
+        heading,
+        blocks,
+        &[],
+        &mut bytes[..BLOCK * (1 + blocks.len())],
+    );
+    true
+}
+
 /// Whether a part of so many inode blocks is one at a place, where the next part is to begin at
 /// another.
 fn is_part_before(
@@ -118,14 +153,15 @@ fn is_part_before(
         ino: 1,
         index: 4_294_967_295,
     };
-    let blocks = vec![in alloc; inode; count]?;
-    let mut bytes = vec![in alloc; 7; BLOCK * 64u32.saturating_sub(place.1) as usize]?;
-    if 240 < blocks.len() || bytes.len() < BLOCK * (1 + blocks.len()) {
+    if 64 < place.1 {
         return Ok(false);
     }
-    let part = &mut bytes.as_mut_slice()[..BLOCK * (1 + blocks.len())];
-    hl_summary::seal_with(heading, &blocks, &[], part);
-    is_part(alloc, &bytes, place, 0, site)
+    let blocks = vec![in alloc; inode; count]?;
+    let mut bytes = vec![in alloc; 7; BLOCK * (64 - place.1) as usize]?;
+    Ok(
+        seal_front(heading, blocks.as_slice(), bytes.as_mut_slice())
+            && is_part(alloc, bytes.as_slice(), place, 0, site)?,
+    )
 }
 
 #[test]

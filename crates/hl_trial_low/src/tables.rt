@@ -7,14 +7,6 @@ use hl_tseg::Slot;
 use std::alloc::Global;
 use std::test::Fail;
 
-fn block(ino: u32, index: u32) -> BlockRecord {
-    BlockRecord { ino, index }
-}
-
-fn change(kind: u32, a: u32, b: u32, serial: u64) -> TableRecord {
-    TableRecord { kind, a, b, serial }
-}
-
 /// The tables of a site, with a part whose blocks lie at 2 * 64 + 5 and behind it, and with three
 /// changes after it.
 fn tables(alloc: Global) -> Result<Tables, Fail> {
@@ -24,21 +16,63 @@ fn tables(alloc: Global) -> Result<Tables, Fail> {
     // The block of inode 7, a data block and a pointer block of it, the block of inode 3, and a
     // table block.
     let blocks = [
-        block(7, 4_294_967_295),
-        block(7, 3),
-        block(7, 4_294_967_294),
-        block(3, 4_294_967_295),
-        block(2, 4_294_967_293),
+        BlockRecord {
+            ino: 7,
+            index: 4_294_967_295,
+        },
+        BlockRecord { ino: 7, index: 3 },
+        BlockRecord {
+            ino: 7,
+            index: 4_294_967_294,
+        },
+        BlockRecord {
+            ino: 3,
+            index: 4_294_967_295,
+        },
+        BlockRecord {
+            ino: 2,
+            index: 4_294_967_293,
+        },
     ];
     // Inode 3 is freed; slot 4 is staged and then home, slot 5 is staged, slot 6 is spoilt; volume 1 is
     // full.
     let changes = [
-        change(1, 3, 0, 0),
-        change(2, 4, 9, 77),
-        change(3, 4, 0, 77),
-        change(2, 5, 12, 78),
-        change(4, 6, 0, 0),
-        change(5, 1, 0, 0),
+        TableRecord {
+            kind: 1,
+            a: 3,
+            b: 0,
+            serial: 0,
+        },
+        TableRecord {
+            kind: 2,
+            a: 4,
+            b: 9,
+            serial: 77,
+        },
+        TableRecord {
+            kind: 3,
+            a: 4,
+            b: 0,
+            serial: 77,
+        },
+        TableRecord {
+            kind: 2,
+            a: 5,
+            b: 12,
+            serial: 78,
+        },
+        TableRecord {
+            kind: 4,
+            a: 6,
+            b: 0,
+            serial: 0,
+        },
+        TableRecord {
+            kind: 5,
+            a: 1,
+            b: 0,
+            serial: 0,
+        },
     ];
     tables.lay(2, 5, &blocks, &changes);
     tables.set_used(2, true);
