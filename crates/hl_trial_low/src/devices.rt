@@ -1,11 +1,13 @@
-//! That the devices reach the system, and go on where it does less than it is asked to.
+//! That the devices of the system reach it, and go on where it does less than they ask for; and what a
+//! failed call leaves of the devices in memory.
 
 use hl_bytes::SegBuf;
 use hl_host::{FileMachine, FileVolume, PositionalFile, StdClock, StdSource};
 use hl_media::{Clock, Machine, Source, Volume, Written};
+use hl_mem::{MemMachine, MemVolume};
 use std::alloc::{AllocError, Global};
 use std::fs::File;
-use std::io::{Error, ErrorKind, Write};
+use std::io::{Error, ErrorKind};
 use std::rt::Stdout;
 use std::{fs, io};
 
@@ -66,13 +68,8 @@ impl PositionalFile for Grudging {
     }
 }
 
-/// Writes one or two blocks of a byte. A block past the last is none that is written.
-fn write<F: PositionalFile, W: Write>(
-    machine: &mut FileMachine<F, W>,
-    at: u32,
-    count: u32,
-    byte: u8,
-) -> bool {
+/// Writes one or two blocks of a byte.
+fn write<M: Machine>(machine: &mut M, at: u32, count: u32, byte: u8) -> bool {
     if machine.blocks() < 8 || 6 < at {
         return false;
     }
@@ -84,7 +81,7 @@ fn write<F: PositionalFile, W: Write>(
 }
 
 /// The first and the last byte of each of two blocks.
-fn read<F: PositionalFile, W: Write>(machine: &mut FileMachine<F, W>, at: u32) -> Option<[u8; 4]> {
+fn read<M: Machine>(machine: &mut M, at: u32) -> Option<[u8; 4]> {
     let mut out = [0u8; 8192];
     if machine.blocks() < 8 || 6 < at {
         return None;
@@ -95,12 +92,16 @@ fn read<F: PositionalFile, W: Write>(machine: &mut FileMachine<F, W>, at: u32) -
     }
 }
 
-fn sync<F: PositionalFile, W: Write>(machine: &mut FileMachine<F, W>) -> bool {
+fn sync<M: Machine>(machine: &mut M) -> bool {
     machine.sync().is_ok()
 }
 
-/// How many calls on the disk failed, and how many of them were writes.
-fn faults<F: PositionalFile, W: Write>(machine: &FileMachine<F, W>) -> (u64, u64) {
+fn say<M: Machine>(machine: &mut M, text: &[u8]) -> bool {
+    machine.say(text).is_ok()
+}
+
+/// How many calls on the disk failed, and how many of them were writes or syncs.
+fn faults<M: Machine>(machine: &M) -> (u64, u64) {
     (machine.faults(), machine.write_faults())
 }
 
@@ -126,41 +127,43 @@ fn a_file_keeps_what_was_written(rt: HostRuntime) {
     // The file ends behind block 4.
     assert!(rt; read(&mut machine, 4) == None);
     assert!(rt; faults(&machine) == (1, 0));
-    assert!(rt; machine.say(b"said\n").is_ok());
+    assert!(rt; say(&mut machine, b"said\n"));
     assert!(rt; fs::remove_file(&rt, name).is_ok());
 }
 
 /// Writes a segment of two blocks of a byte into a slot.
-fn write_slot(
+fn write_slot<V: Volume>(
     alloc: Global,
-    volume: &mut FileVolume<File>,
+    volume: &mut V,
     slot: u32,
     byte: u8,
 ) -> Result<bool, AllocError> {
     let mut from = SegBuf::new(alloc, 2)?;
-    if from.blocks() != 2 || volume.slots() <= slot {
+    if volume.slots() <= slot {
         return Ok(false);
     }
     from.part_mut(0, 2).fill(byte);
     Ok(volume.write_seg(slot, &from) == Ok(Written::Done))
 }
 
-/// The last byte of a slot of so many blocks, if they are read.
-fn last_in_slot(
+/// Reads a slot into so many blocks, which are filled with 9 before: whether it was read, and the last
+/// byte.
+fn read_slot<V: Volume>(
     alloc: Global,
-    volume: &mut FileVolume<File>,
+    volume: &mut V,
     slot: u32,
     blocks: u32,
-) -> Result<Option<u8>, AllocError> {
+) -> Result<(bool, u8), AllocError> {
     let mut out = SegBuf::new(alloc, blocks)?;
-    if volume.slots() <= slot || volume.read_seg(slot, &mut out).is_err() {
-        return Ok(None);
+    if volume.slots() <= slot || blocks == 0 {
+        return Ok((false, 0));
     }
-    let last = out.blocks().saturating_sub(1);
-    if out.blocks() <= last {
-        return Ok(None);
+    out.part_mut(0, blocks).fill(9);
+    let is_read = volume.read_seg(slot, &mut out).is_ok();
+    if out.blocks() != blocks {
+        return Ok((false, 0));
     }
-    Ok(Some(out.block(last)[4095]))
+    Ok((is_read, out.block(blocks - 1)[4095]))
 }
 
 #[test]
@@ -172,12 +175,12 @@ fn a_volume_keeps_its_slots(rt: HostRuntime) -> Result<(), AllocError> {
     }
     assert!(rt; volume.sync().is_ok());
     for (slot, byte) in [(0, 1), (1, 0), (2, 3)] {
-        let last = last_in_slot(rt.alloc(), &mut volume, slot, 2)?;
-        assert!(rt; last == Some(byte), "{slot}");
+        let found = read_slot(rt.alloc(), &mut volume, slot, 2)?;
+        assert_eq!(rt; found, (true, byte), "{slot}");
     }
     assert!(rt; volume.faults() == 0);
     // A segment of another size is none.
-    assert!(rt; last_in_slot(rt.alloc(), &mut volume, 0, 1)? == None);
+    assert_eq!(rt; read_slot(rt.alloc(), &mut volume, 0, 1)?, (false, 9));
     assert!(rt; volume.faults() == 1);
     assert!(rt; fs::remove_file(&rt, name).is_ok());
     Ok(())
@@ -224,9 +227,9 @@ fn a_file_that_is_not_there_fails(rt: HostRuntime) -> Result<(), AllocError> {
     assert!(rt; !write(&mut machine, 0, 1, 0));
     assert!(rt; !sync(&mut machine));
     assert!(rt; faults(&machine) == (3, 2));
-    assert!(rt; machine.say(b"said\n").is_ok());
+    assert!(rt; say(&mut machine, b"said\n"));
     let mut volume: FileVolume<File> = FileVolume::new(None, 2, 1);
-    assert!(rt; last_in_slot(rt.alloc(), &mut volume, 0, 2)? == None);
+    assert!(rt; !read_slot(rt.alloc(), &mut volume, 0, 2)?.0);
     assert!(rt; !write_slot(rt.alloc(), &mut volume, 0, 0)?);
     assert!(rt; volume.sync().is_err() && volume.faults() == 3);
     Ok(())
@@ -262,4 +265,49 @@ fn standard_input_ends(rt: HostRuntime) {
 #[test]
 fn the_clock_tells_the_time(rt: HostRuntime) {
     assert!(rt; StdClock::new(rt).now() > 1_000_000_000);
+}
+
+/// A disk of eight blocks in memory, of which the second, the fourth and the sixth call fail.
+fn failing_machine(alloc: Global) -> Result<MemMachine, AllocError> {
+    let mut machine = MemMachine::new(alloc, 8)?;
+    for number in [2, 4, 6] {
+        machine.fail_call(alloc, number)?;
+    }
+    Ok(machine)
+}
+
+#[test]
+fn a_failed_call_leaves_the_blocks_and_says_the_first_half(
+    rt: HostRuntime,
+) -> Result<(), AllocError> {
+    let mut machine = failing_machine(rt.alloc())?;
+    assert!(rt; write(&mut machine, 3, 2, 7));
+    assert!(rt; !write(&mut machine, 3, 1, 9));
+    assert!(rt; read(&mut machine, 3) == Some([7, 7, 7, 7]));
+    assert!(rt; !say(&mut machine, b"abcd"));
+    assert!(rt; say(&mut machine, b"ef"));
+    assert!(rt; !sync(&mut machine));
+    assert!(rt; machine.said() == b"abef".as_slice());
+    assert!(rt; faults(&machine) == (2, 2));
+    Ok(())
+}
+
+/// A volume of three slots in memory, of which the second and the third call fail.
+fn failing_volume(alloc: Global) -> Result<MemVolume, AllocError> {
+    let mut volume = MemVolume::new(alloc, 2, 3, 3)?;
+    for number in [2, 3] {
+        volume.fail_call(alloc, number)?;
+    }
+    Ok(volume)
+}
+
+#[test]
+fn a_failed_call_leaves_the_slot_and_the_buffer(rt: HostRuntime) -> Result<(), AllocError> {
+    let mut volume = failing_volume(rt.alloc())?;
+    assert!(rt; write_slot(rt.alloc(), &mut volume, 1, 5)?);
+    assert!(rt; !write_slot(rt.alloc(), &mut volume, 1, 6)?);
+    assert_eq!(rt; read_slot(rt.alloc(), &mut volume, 1, 2)?, (false, 9));
+    assert_eq!(rt; read_slot(rt.alloc(), &mut volume, 1, 2)?, (true, 5));
+    assert!(rt; volume.faults() == 2);
+    Ok(())
 }

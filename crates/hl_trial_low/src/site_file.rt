@@ -5,12 +5,10 @@ use std::alloc::Global;
 use std::test::Fail;
 
 /// The numbers of the site, and of its volumes.
-fn site_in(alloc: Global, text: &str) -> Result<([u32; 4], Vec<u32>), SiteError> {
+fn site_in(alloc: Global, text: &str) -> Result<([u32; 4], Vec<u32>), Fail> {
     let site = read_site(alloc, text.as_bytes())?;
-    Ok((
-        [site.k, site.log, site.lines, site.inodes],
-        site.volumes.into_vec(),
-    ))
+    let volumes = Vec::from_slice(alloc, site.volumes.items())?;
+    Ok(([site.k, site.log, site.lines, site.inodes], volumes))
 }
 
 /// What is told of a text.
