@@ -1,5 +1,5 @@
-//! That the devices of the system reach it, and go on where it does less than they ask for; and what a
-//! failed call leaves of the devices in memory.
+//! That the devices of the system reach it, and go on where it does less than they ask for; and
+//! what a failed call leaves of the devices in memory.
 
 use hl_bytes::SegBuf;
 use hl_host::{FileMachine, FileVolume, PositionalFile, StdClock, StdSource};
@@ -11,8 +11,8 @@ use std::io::{Error, ErrorKind};
 use std::rt::Stdout;
 use std::{fs, io};
 
-/// A file in memory that moves at most a thousand bytes a call; one call fails, and a signal cuts in at
-/// each third read or write.
+/// A file in memory that moves at most a thousand bytes a call; one call fails, and a signal cuts
+/// in at each third read or write.
 #[derive(Drop)]
 struct Grudging {
     bytes: Vec<u8>,
@@ -146,8 +146,8 @@ fn write_slot<V: Volume>(
     Ok(volume.write_seg(slot, &from) == Ok(Written::Done))
 }
 
-/// Reads a slot into so many blocks, which are filled with 9 before: whether it was read, and the last
-/// byte.
+/// Reads a slot into so many blocks, which are filled with 9 before: whether it was read, and the
+/// last byte.
 fn read_slot<V: Volume>(
     alloc: Global,
     volume: &mut V,

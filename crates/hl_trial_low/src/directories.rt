@@ -92,8 +92,8 @@ fn five_hundred_names_come_and_go(rt: HostRuntime) -> Result<(), Fail> {
     Ok(())
 }
 
-/// What is seen of bytes off the grammar: whether `a` and `b` are found, the number of names, where `b`
-/// is put in, and where it is taken out again.
+/// What is seen of bytes off the grammar: whether `a` and `b` are found, the number of names, where
+/// `b` is put in, and where it is taken out again.
 type Seen = (bool, bool, usize, usize, Option<usize>);
 
 fn see(alloc: Global, bytes: &mut Vec<u8>) -> Result<Seen, AllocError> {

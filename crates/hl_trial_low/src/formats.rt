@@ -1,4 +1,5 @@
-//! The bytes and digests of single blocks, worked out from `docs/FORMATS.md` outside of this program.
+//! The bytes and digests of single blocks, worked out from `docs/FORMATS.md` outside of this
+//! program.
 
 ghost use Rattle.std.specs.Prelude.{IfOk};
 ghost use Rattle.hl_super.specs.Records.{HasRoom};

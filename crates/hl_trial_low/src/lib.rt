@@ -1,6 +1,6 @@
-//! Tests of the low crates, through their public calls: numbers, formats, the site file, file calls on
-//! a tree, script lines, answers, inputs and the devices of the system. They show what no clause says:
-//! bytes, digests and texts from outside, and that calls succeed with ample memory.
+//! Tests of the low crates, through their public calls: numbers, formats, the site file, file calls
+//! on a tree, script lines, answers, inputs and the devices of the system. They show what no clause
+//! says: bytes, digests and texts from outside, and that calls succeed with ample memory.
 //!
 //! Each call is made through a small function without `ensures`, so that a test's own proof carries
 //! nothing, and a table of cases is one loop over data.

@@ -5,8 +5,8 @@ use hl_bytes::{BlockRecord, TableRecord};
 use std::alloc::Global;
 use std::test::Fail;
 
-/// A site of 64 blocks a segment, 16 log segments, 16 lines, 512 inode numbers and two volumes of four
-/// slots.
+/// A site of 64 blocks a segment, 16 log segments, 16 lines, 512 inode numbers and two volumes of
+/// four slots.
 fn site(alloc: Global) -> Result<Geometry, Fail> {
     let volumes = Numbers::of([4, 4].to_vec(alloc)?);
     Ok(Geometry::new(64, 16, 16, 512, volumes).ok_or("off the limits")?)

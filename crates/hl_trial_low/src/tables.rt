@@ -34,8 +34,8 @@ fn tables(alloc: Global) -> Result<Tables, Fail> {
             index: 4_294_967_293,
         },
     ];
-    // Inode 3 is freed; slot 4 is staged and then home, slot 5 is staged, slot 6 is spoilt; volume 1 is
-    // full.
+    // Inode 3 is freed; slot 4 is staged and then home, slot 5 is staged, slot 6 is spoilt; volume
+    // 1 is full.
     let changes = [
         TableRecord {
             kind: 1,
