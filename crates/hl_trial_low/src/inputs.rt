@@ -6,8 +6,8 @@ use std::alloc::{AllocError, Global};
 use std::process::Abort;
 use std::test::*;
 
-/// Checks the lines of an input in pieces, whose read of this number fails and 0 is none: each with a bar behind it, and
-/// then `end`, `input` or `long`.
+/// Checks the lines of an input in pieces, whose read of this number fails and 0 is none: each with
+/// a bar behind it, and then `end`, `input` or `long`.
 fn gives(
     rt: &impl Abort,
     alloc: Global,
