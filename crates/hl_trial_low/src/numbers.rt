@@ -146,10 +146,9 @@ fn runs_read(alloc: Global, bytes: &[u8; 64]) -> Result<[usize; 3], Fail> {
 #[test]
 fn runs_stand_one_after_the_other(rt: HostRuntime) -> Result<(), Fail> {
     let bytes = runs();
-    let front = b"\x01\0\0\0\0\x01\0\0\x02\0\0\0\x0b\x04\0\0\x02\0\0\0\x03\0\0\0\x04\0\0\0\0\0\0\0";
-    let back = b"\x05\0\0\0\0\0\0\0\x02\0\0\0\x03\0\0\0\x04\0\0\0\0\0\0\0\x05\0\0\0\0\0\0\0";
-    assert!(rt; &bytes[..32] == front.as_slice());
-    assert!(rt; &bytes[32..] == back.as_slice());
+    let wanted =
+        b"\x01\0\0\0\0\x01\0\0\x02\0\0\0\x0b\x04\0\0\x02\0\0\0\x03\0\0\0\x04\0\0\0\0\0\0\0\x05\0\0\0\0\0\0\0\x02\0\0\0\x03\0\0\0\x04\0\0\0\0\0\0\0\x05\0\0\0\0\0\0\0";
+    assert!(rt; bytes.as_slice() == wanted.as_slice());
     assert!(rt; runs_read(rt.alloc(), &bytes)? == [256, 1, 2]);
     Ok(())
 }
