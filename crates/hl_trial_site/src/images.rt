@@ -4,8 +4,9 @@
 mod broken;
 mod sparse;
 
+use hl_hierarchy::HierarchyAnswer;
 use hl_trial::images::{
-    Looked, are_same, change, files, files_with_away, image_with_away, image_with_units, look,
+    Counted, Looked, are_same, change, counts, files, files_with_away, image_with_away, image_with_units, look,
     plain_files, plain_image,
 };
 use hl_tree::{List, Node, Path};
@@ -91,6 +92,39 @@ fn an_image_has_what_its_newest_record_and_whole_units_say(rt: HostRuntime) -> R
         ("130+8=3", Some((4, 0, 1, 5, true))),
     ] {
         holds(&rt, rt.alloc(), changes, wanted)?;
+    }
+    Ok(())
+}
+
+/// Of the image with away blocks: four table blocks, seven inodes, one pointer block and six blocks
+/// of nodes are in the log, all in segment 1 but an inode and a block in segment 2, where the log
+/// goes on. The two away blocks aren't charged.
+fn is_in_order(rt: &impl Abort, counted: &Counted) {
+    assert_eq!(rt; counted.charge, 14);
+    assert_eq!(rt; counted.live.len(), 16);
+    for (i, live) in counted.live.iter().enumerate() {
+        let wanted = match i {
+            0 => 16,
+            1 => 2,
+            _ => 0,
+        };
+        assert!(rt; *live == wanted, "segment {i}");
+    }
+    assert_eq!(rt; counted.clean.len(), 14);
+    assert_eq!(rt; (counted.shared, counted.stray), (None, None));
+    assert_eq!(rt; (counted.slot, counted.over), (None, None));
+    assert_eq!(rt; counted.hierarchy, HierarchyAnswer::Kept);
+}
+
+#[test]
+fn the_parts_of_a_mount_find_the_image_with_away_blocks_in_order(
+    rt: HostRuntime,
+) -> Result<(), Fail> {
+    let alloc = rt.alloc();
+    let image = image_with_away(alloc)?;
+    match counts(alloc, &image)? {
+        Some(counted) => is_in_order(&rt, &counted),
+        None => panic!(rt; "the survey stops"),
     }
     Ok(())
 }

@@ -9,10 +9,7 @@ use crate::images::hand_made::{BYTES, site};
 use hl_addr::Geometry;
 use hl_found::{FoundContents, contents_of, files_of, is_sound, lie_apart, live_blocks};
 use hl_found::{next_tertiary, slots_are_possible};
-use hl_mem::MemMachine;
 use hl_nodes::FoundNode;
-use hl_recovery::{MountError, recover};
-use hl_survey::{FoundInode, SurveyStop, survey};
 use hl_tree::PlainTree;
 use std::alloc::{AllocError, Global};
 
@@ -91,27 +88,4 @@ pub fn files(alloc: Global, image: &[u8]) -> Result<Option<PlainTree>, AllocErro
         return Ok(None);
     }
     files_of(alloc, image, &site, &shelf)
-}
-
-/// A disk with these bytes.
-fn disk_of(alloc: Global, image: &[u8]) -> Result<MemMachine, AllocError> {
-    if image.len() != BYTES {
-        return Err(AllocError);
-    }
-    MemMachine::of_image(alloc, image)
-}
-
-/// What a survey finds behind what a mount reads first, where the call of a number fails, counted
-/// from 1 on with the survey's first; none fails for 0.
-pub fn surveyed(
-    alloc: Global,
-    image: &[u8],
-    fails: u64,
-) -> Result<Result<Vec<Option<FoundInode>>, SurveyStop>, MountError> {
-    let mut machine = disk_of(alloc, image)?;
-    let first = recover(alloc, &mut machine, &[4])?;
-    let made = machine.now() / 2;
-    machine.fail_call(alloc, made.saturating_add(fails))?;
-    let (site, rec, tables) = (&first.geometry, &first.rec, &first.tables);
-    Ok(survey(alloc, &mut machine, site, rec, tables))
 }
