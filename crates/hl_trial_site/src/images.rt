@@ -5,11 +5,11 @@ mod broken;
 mod sparse;
 
 use hl_hierarchy::HierarchyAnswer;
-use hl_trial::images::{
-    Counted, Looked, are_same, change, counts, files, files_with_away, image_with_away, image_with_units, look,
-    plain_files, plain_image,
-};
 use hl_tree::{List, Node, Path};
+use hl_trial::images::{
+    Counted, Looked, are_same, change, counts, files, files_with_away, image_with_away,
+    image_with_units, look, plain_files, plain_image,
+};
 use std::alloc::Global;
 use std::process::Abort;
 use std::test::*;

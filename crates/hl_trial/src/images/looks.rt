@@ -7,8 +7,10 @@ ghost use Rattle.hl_image.specs.Places.{log_end};
 use crate::images::good::shelf;
 use crate::images::hand_made::{BYTES, site};
 use hl_addr::Geometry;
-use hl_found::{FoundContents, contents_of, files_of, is_sound, lie_apart, live_blocks};
-use hl_found::{next_tertiary, slots_are_possible};
+use hl_found::{
+    FoundContents, contents_of, files_of, is_sound, lie_apart, live_blocks, next_tertiary,
+    slots_are_possible,
+};
 use hl_nodes::FoundNode;
 use hl_tree::PlainTree;
 use std::alloc::{AllocError, Global};

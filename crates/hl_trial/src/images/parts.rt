@@ -1,8 +1,10 @@
 //! What the parts of a mount find on a disk with the bytes of an image. None of these functions says
 //! what it answers: that stands at what they call.
 
-ghost use Rattle.std.specs.Prelude.{ℕ, List};
-ghost use Rattle.hl_recovery.specs.Recoveries.{IsReady};
+ghost use Rattle.std.specs.Prelude.{◌≡◌, ◌+◌, length};
+ghost use Rattle.hl_addr.specs.Layout.{table_blocks};
+ghost use Rattle.hl_image.specs.Places.{IsLogPlace};
+ghost use Rattle.hl_tables.specs.Values.{AreTables};
 
 use crate::images::hand_made::BYTES;
 use hl_census::{charge, clean, live, named, over_quota, shared_block, stray_block};
@@ -50,8 +52,8 @@ pub fn surveyed(
     let first = recover(alloc, &mut machine, &[4])?;
     let made = machine.now() / 2;
     machine.fail_call(alloc, made.saturating_add(fails))?;
-    let (site, rec, tables) = (&first.geometry, &first.rec, &first.tables);
-    Ok(survey(alloc, &mut machine, site, rec, tables))
+    let site = &first.geometry;
+    Ok(survey(alloc, &mut machine, site, &first.rec, &first.tables))
 }
 
 /// What is counted of a disk that was recovered, where this was found.
@@ -61,9 +63,14 @@ fn counted(
     found: &[Option<FoundInode>],
     hierarchy: HierarchyAnswer,
 ) -> Result<Counted, AllocError>
-    requires { (blocks : ℕ) × (rack : List ℕ) × IsReady blocks rack first.now }
+    requires blocks { length first.now.rec.tables ≡ table_blocks first.now.geometry }
+    requires tables { AreTables first.now.geometry first.now.tables }
+    requires head { IsLogPlace first.now.geometry first.now.at }
+    requires segments { length first.now.covered.items ≡ first.now.geometry.log + 1 }
 {
-    let (site, rec, tables) = (&first.geometry, &first.rec, &first.tables);
+    let site = &first.geometry;
+    let rec = &first.rec;
+    let tables = &first.tables;
     let named = named(alloc, rec, found)?;
     let live = live(alloc, site, &named)?;
     let charge = charge(site, found);

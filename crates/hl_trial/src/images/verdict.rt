@@ -11,10 +11,12 @@ use crate::images::hand_made::{BYTES, site};
 use hl_addr::{Geometry, NOTHING};
 use hl_bytes::get_u32;
 use hl_dir::Entry;
-use hl_found::{FoundContents, FoundUse, ShelfSegment, aways_are_apart, blocks_are_in_place};
-use hl_found::{chain_of, charge_is_within, contents_of, ends_in_zeros, has_volumes, lie_apart};
-use hl_found::{lines_hold_segments, live_blocks, newest_record, next_tertiary, places_of};
-use hl_found::{slots_are_possible, staged_segments, tables_of, uses_of};
+use hl_found::{
+    FoundContents, FoundUse, ShelfSegment, aways_are_apart, blocks_are_in_place, chain_of,
+    charge_is_within, contents_of, ends_in_zeros, has_volumes, lie_apart, lines_hold_segments,
+    live_blocks, newest_record, next_tertiary, places_of, slots_are_possible, staged_segments,
+    tables_of, uses_of,
+};
 use hl_inode::{Kind, decode, pointer};
 use hl_nodes::{FoundNode, Rule, block_at, is_in_log};
 use hl_super::Record;
@@ -290,11 +292,7 @@ fn rule_of_tables(
 }
 
 /// The rules that an image breaks; of the rules 2 to 6 the first alone.
-fn rules_broken(
-    alloc: Global,
-    image: &[u8],
-    geometry: &Geometry,
-) -> Result<Vec<Rule>, AllocError>
+fn rules_broken(alloc: Global, image: &[u8], geometry: &Geometry) -> Result<Vec<Rule>, AllocError>
     requires { 4096 * lines_end geometry.now ≤ length image.now }
 {
     match contents_of(alloc, image, geometry)? {
