@@ -98,7 +98,7 @@ fn an_image_has_what_its_newest_record_and_whole_units_say(rt: HostRuntime) -> R
 
 /// Of the image with away blocks: four table blocks, seven inodes, one pointer block and six blocks
 /// of nodes are in the log, all in segment 1 but an inode and a block in segment 2, where the log
-/// goes on. The two away blocks aren't charged.
+/// goes on. The two away blocks aren't charged. The last use of file 3 is 5, and that of file 7 is 9.
 fn is_in_order(rt: &impl Abort, counted: &Counted) {
     assert_eq!(rt; counted.charge, 14);
     assert_eq!(rt; counted.live.len(), 16);
@@ -111,6 +111,9 @@ fn is_in_order(rt: &impl Abort, counted: &Counted) {
         assert!(rt; *live == wanted, "segment {i}");
     }
     assert_eq!(rt; counted.clean.len(), 14);
+    assert_eq!(rt; counted.uses.len(), 512);
+    assert_eq!(rt; counted.uses.get(3).copied(), Some(5));
+    assert_eq!(rt; counted.uses.get(7).copied(), Some(9));
     assert_eq!(rt; (counted.shared, counted.stray), (None, None));
     assert_eq!(rt; (counted.slot, counted.over), (None, None));
     assert_eq!(rt; counted.hierarchy, HierarchyAnswer::Kept);
@@ -121,7 +124,8 @@ fn the_parts_of_a_mount_find_the_image_with_away_blocks_in_order(
     rt: HostRuntime,
 ) -> Result<(), Fail> {
     let alloc = rt.alloc();
-    let image = image_with_away(alloc)?;
+    let mut image = image_with_away(alloc)?;
+    assert!(rt; change(&mut image, "114+24=5 121+24=9"));
     match counts(alloc, &image)? {
         Some(counted) => is_in_order(&rt, &counted),
         None => panic!(rt; "the survey stops"),

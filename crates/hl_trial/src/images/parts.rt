@@ -7,7 +7,7 @@ ghost use Rattle.hl_image.specs.Places.{IsLogPlace};
 ghost use Rattle.hl_tables.specs.Values.{AreTables};
 
 use crate::images::hand_made::BYTES;
-use hl_census::{charge, clean, live, named, over_quota, shared_block, stray_block};
+use hl_census::{charge, clean, live, named, over_quota, shared_block, stray_block, uses};
 use hl_hierarchy::{HierarchyAnswer, check_hierarchy};
 use hl_mem::MemMachine;
 use hl_recovery::{MountError, Recovered, recover};
@@ -24,6 +24,8 @@ pub struct Counted {
     pub live: Vec<u32>,
     /// The clean log segments.
     pub clean: Vec<u32>,
+    /// The last use of each number from 0 on.
+    pub uses: Vec<u64>,
     /// A block that breaks the rule of shared blocks, of stray blocks, of slots and of the quota.
     pub shared: Option<u32>,
     pub stray: Option<u32>,
@@ -78,6 +80,7 @@ fn counted(
         charge,
         clean: clean(alloc, site, first.at, &first.covered, &live)?,
         live,
+        uses: uses(alloc, site, found)?,
         shared: shared_block(alloc, &named)?,
         stray: stray_block(alloc, site, rec, tables, first.at, &first.covered, &named)?,
         slot: check_slots(alloc, site, rec, tables, first.tseg_serial)?,
