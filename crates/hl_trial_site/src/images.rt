@@ -48,7 +48,7 @@ fn the_image_with_away_blocks_has_its_files(rt: HostRuntime) -> Result<(), Fail>
 /// the nodes and the live blocks, and whether no two of these have one address.
 type Left = (u64, usize, usize, usize, bool);
 
-fn left(looked: Looked) -> Left {
+fn left_by(looked: Looked) -> Left {
     (
         looked.record,
         looked.parts,
@@ -63,7 +63,7 @@ fn holds(rt: &impl Abort, alloc: Global, changes: &str, wanted: Option<Left>) ->
     let mut image = image_with_units(alloc)?;
     assert!(rt; change(&mut image, changes), "{changes}");
     let looked = look(alloc, &image)?;
-    assert_eq!(rt; looked.map(left), wanted, "{changes}");
+    assert_eq!(rt; looked.map(left_by), wanted, "{changes}");
     if let Some(looked) = looked {
         assert!(rt; looked.is_sound == looked.are_apart, "{changes}");
         assert!(rt;

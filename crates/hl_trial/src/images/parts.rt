@@ -59,7 +59,7 @@ pub fn surveyed(
 }
 
 /// What is counted of a disk that was recovered, where this was found.
-fn counted(
+fn count_all(
     alloc: Global,
     first: &Recovered,
     found: &[Option<FoundInode>],
@@ -101,5 +101,5 @@ pub fn counts(alloc: Global, image: &[u8]) -> Result<Option<Counted>, MountError
         return Ok(None);
     }
     let hierarchy = check_hierarchy(alloc, &mut machine, site, &first.tables, &found);
-    Ok(Some(counted(alloc, &first, &found, hierarchy)?))
+    Ok(Some(count_all(alloc, &first, &found, hierarchy)?))
 }
