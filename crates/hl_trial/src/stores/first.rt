@@ -4,13 +4,13 @@
 ghost use Rattle.std.specs.Prelude.{◌≡◌, IfSome};
 ghost use Rattle.hl_log.specs.Logs.{site_blocks};
 
+use crate::segments::seal_one;
 use hl_addr::{Geometry, NOTHING, Numbers};
-use hl_bytes::{BLOCK, BlockRecord, SegBuf, is_zero};
+use hl_bytes::{BLOCK, BlockRecord, SegBuf};
 use hl_inode::{Inode, Kind, encode};
 use hl_super::{Label, Record, encode_label, encode_record};
 use hl_tables::Tables;
 use hl_tseg::Slot;
-use hl_view::seal_line;
 use std::alloc::{AllocError, Global};
 
 /// What a first image has.
@@ -45,18 +45,6 @@ pub const HOME: Tertiary = Tertiary {
     index: 1,
     byte: 8,
 };
-
-/// Seals a buffer as the segment of a serial whose one block is block 1, where it has that block and only zeros behind it.
-fn seal_one(buf: &mut SegBuf, serial: u64, record: BlockRecord) {
-    let blocks = buf.blocks();
-    if blocks < 2 {
-        return;
-    }
-    if !is_zero(buf.part(0, blocks), 2 * BLOCK, BLOCK * blocks as usize) {
-        return;
-    }
-    seal_line(buf, serial, &[record]);
-}
 
 impl Tertiary {
     /// Its bytes, as many as a line's of a site of segments of `k` blocks.

@@ -1,6 +1,6 @@
 use Rattle.std.proofs.Common.{◌≡◌, ◌*◌, ◌≤◌, length, lit≤, sym, arith}
 use Rattle.hl_view.proofs.SegmentLemmas.{zero_behind}
-use Rattle.hl_trial.proofs.stores.first.seal_one.Goals as goal
+use Rattle.hl_trial.proofs.segments.seal_one.Goals as goal
 
 pub seal_line-requires : goal.seal_line-requires
 seal_line-requires c =
