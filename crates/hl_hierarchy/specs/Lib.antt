@@ -2,4 +2,3 @@ pub mod Bytes
 pub mod Naming
 pub mod Climbing
 pub mod Hierarchies
-pub mod Answers

@@ -1,12 +1,12 @@
 //! The bytes of one directory, and its entries.
 
-ghost use Rattle.std.specs.Prelude.{◌≡◌, ◌↔◌, ◌+◌, ◌*◌, ◌<◌, ◌≤◌, ◌++◌, false, length, IfErr, IfOk, IsTrue, MatchOption, OnOk};
+ghost use Rattle.std.specs.Prelude.{◌≡◌, ◌↔◌, ◌+◌, ◌*◌, ◌<◌, ◌≤◌, ◌++◌, false, length, IfErr, IfOk, IsTrue, MatchOption, MatchResult, OnOk};
 ghost use Rattle.hl_media.specs.Causes.{HasCause};
 ghost use Rattle.hl_media.specs.Moments.{Now};
 ghost use Rattle.hl_log.specs.Logs.{OnlyReads, site_blocks};
 ghost use Rattle.hl_placed.specs.Blocks.{blocks_of};
 ghost use Rattle.hl_nodes.specs.Directories.{HoldsEntries};
-ghost use Rattle.hl_survey.specs.Stops.{Stops};
+ghost use Rattle.hl_survey.specs.Stops.{Stops, StopsBy};
 ghost use Rattle.hl_hierarchy.specs.Bytes.{AreBlocks, AreInLog, AreOf, HasOutside, SpellsNone, SpellsTo};
 ghost use Rattle.hl_hierarchy.specs.Hierarchies.{BreaksDirectory};
 
@@ -70,6 +70,8 @@ fn append_block<M: Machine>(machine: &mut M, at: u32, bytes: &mut Vec<u8>) -> Re
         machine.old machine.new) }
     ensures machine { OnlyReads M.history M.blocks M.faults M.write_faults M.say_faults
         machine.old machine.new }
+    ensures fault { MatchResult result (λ _. M.faults machine.new ≡ M.faults machine.old)
+        (StopsBy (M.faults machine.old) (M.faults machine.new)) }
 {
     let mut block = [0; BLOCK];
     read_block(machine, at, &mut block)?;
@@ -93,6 +95,8 @@ fn read_blocks<M: Machine>(
         machine.old machine.new) }
     ensures machine { OnlyReads M.history M.blocks M.faults M.write_faults M.say_faults
         machine.old machine.new }
+    ensures fault { MatchResult result (λ _. M.faults machine.new ≡ M.faults machine.old)
+        (StopsBy (M.faults machine.old) (M.faults machine.new)) }
 {
     let mut bytes = Vec::new(alloc);
     'pointers: for i in 0..pointers.len() {
@@ -138,6 +142,8 @@ pub(crate) fn read_entries<M: Machine>(
         machine.old machine.new) }
     ensures machine { OnlyReads M.history M.blocks M.faults M.write_faults M.say_faults
         machine.old machine.new }
+    ensures fault { MatchResult result (λ _. M.faults machine.new ≡ M.faults machine.old)
+        (StopsBy (M.faults machine.old) (M.faults machine.new)) }
 {
     let pointers = dir.pointers.as_slice();
     if !is_counted(dir.inode.size, pointers) {

@@ -1,13 +1,12 @@
 //! A look at the directories of a disk.
 
-ghost use Rattle.std.specs.Prelude.{◌≡◌, ◌<◌, ◌≤◌, length, IfErr, OnOk, Some};
+ghost use Rattle.std.specs.Prelude.{◌≡◌, ◌<◌, ◌≤◌, length, IfErr, MatchResult, OnOk, Some};
 ghost use Rattle.hl_media.specs.Moments.{Now};
 ghost use Rattle.hl_log.specs.Logs.{OnlyReads, site_blocks};
 ghost use Rattle.hl_tables.specs.Values.{TableValues};
 ghost use Rattle.hl_survey.specs.declared.found.FoundInode.{FoundInode};
-ghost use Rattle.hl_survey.specs.Stops.{Stops};
+ghost use Rattle.hl_survey.specs.Stops.{Stops, StopsBy};
 ghost use Rattle.hl_survey.specs.Surveys.{AreSurveyed};
-ghost use Rattle.hl_hierarchy.specs.Answers.{Answers};
 ghost use Rattle.hl_hierarchy.specs.Naming.{at_number};
 ghost use Rattle.hl_hierarchy.specs.Hierarchies.{BreaksSurveyed, KeepsHierarchy};
 
@@ -17,20 +16,7 @@ use hl_addr::{Geometry, NOTHING};
 use hl_media::Machine;
 use hl_nodes::Rule;
 use hl_survey::{FoundInode, SurveyStop};
-use hl_tables::Tables;
 use std::alloc::Global;
-
-/// What a look at the directories of a disk answers.
-#[derive(Clone, Copy, Debug, PartialEq, Eq)]
-pub enum HierarchyAnswer {
-    /// Each directory is in order, and each number in use is reached from the root by one path.
-    Kept,
-    /// The disk breaks this rule at this block.
-    Damaged { block: u32, rule: Rule },
-    /// A read failed.
-    DiskFault,
-    Memory,
-}
 
 /// The block of the inode of a number.
 fn inode_block(found: &[Option<FoundInode>], ino: u32) -> u32
@@ -43,8 +29,11 @@ fn inode_block(found: &[Option<FoundInode>], ino: u32) -> u32
     }
 }
 
-/// Tries the rules of the directories, and stops where one is broken.
-fn try_rules<M: Machine>(
+/// Looks at the directories of a disk whose inodes were surveyed. It reads each block of each directory once, and nothing
+/// else, and holds the bytes of one directory at a time. The block that is told is the inode's: of the directory whose bytes
+/// are none, or an entry of which names a number that isn't in use, the root, or a number that another entry names; or of
+/// the number that nothing leads to. The work grows with the bytes of the directories and with the numbers of the site.
+pub fn check_hierarchy<M: Machine>(
     alloc: Global,
     machine: &mut M,
     geometry: &Geometry,
@@ -59,6 +48,8 @@ fn try_rules<M: Machine>(
         machine.old machine.new) }
     ensures machine { OnlyReads M.history M.blocks M.faults M.write_faults M.say_faults
         machine.old machine.new }
+    ensures fault { MatchResult result (λ _. M.faults machine.new ≡ M.faults machine.old)
+        (StopsBy (M.faults machine.old) (M.faults machine.new)) }
 {
     let parents = name_numbers(alloc, machine, geometry, found)?;
     match lost_number(alloc, found, parents.as_slice())? {
@@ -67,31 +58,5 @@ fn try_rules<M: Machine>(
             block: inode_block(found, ino),
             rule: Rule::LostInode,
         }),
-    }
-}
-
-/// Looks at the directories of a disk whose inodes were surveyed. It reads each block of each directory once, and nothing
-/// else, and holds the bytes of one directory at a time. The block that is told is the inode's: of the directory whose bytes
-/// are none, or an entry of which names a number that isn't in use, the root, or a number that another entry names; or of
-/// the number that nothing leads to. The work grows with the bytes of the directories and with the numbers of the site.
-pub fn check_hierarchy<M: Machine>(
-    alloc: Global,
-    machine: &mut M,
-    geometry: &Geometry,
-    tables: &Tables,
-    found: &[Option<FoundInode>],
-) -> HierarchyAnswer
-    requires room { site_blocks geometry.now ≤ M.blocks machine.old }
-    requires size { length found.now ≡ geometry.now.inodes }
-    ensures answers { Answers M.history M.faults geometry.now tables.now found.now
-        machine.old machine.new result }
-    ensures machine { OnlyReads M.history M.blocks M.faults M.write_faults M.say_faults
-        machine.old machine.new }
-{
-    match try_rules(alloc, machine, geometry, found) {
-        Ok(()) => HierarchyAnswer::Kept,
-        Err(SurveyStop::Damaged { block, rule }) => HierarchyAnswer::Damaged { block, rule },
-        Err(SurveyStop::DiskFault) => HierarchyAnswer::DiskFault,
-        Err(SurveyStop::Memory) => HierarchyAnswer::Memory,
     }
 }

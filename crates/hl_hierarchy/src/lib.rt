@@ -8,4 +8,4 @@ mod names;
 mod naming;
 mod reach;
 
-pub use checking::{HierarchyAnswer, check_hierarchy};
+pub use checking::check_hierarchy;

@@ -1,11 +1,11 @@
 //! The directories of a disk, one after the other.
 
-ghost use Rattle.std.specs.Prelude.{◌≡◌, ◌+◌, ◌<◌, ◌≤◌, length, IfErr, IfOk, OnOk, Some};
+ghost use Rattle.std.specs.Prelude.{◌≡◌, ◌+◌, ◌<◌, ◌≤◌, length, IfErr, IfOk, MatchResult, OnOk, Some};
 ghost use Rattle.hl_media.specs.Moments.{Now};
 ghost use Rattle.hl_log.specs.Logs.{OnlyReads, site_blocks};
 ghost use Rattle.hl_addr.specs.Layout.{IsWithinLimits};
 ghost use Rattle.hl_tables.specs.Values.{TableValues};
-ghost use Rattle.hl_survey.specs.Stops.{Stops};
+ghost use Rattle.hl_survey.specs.Stops.{Stops, StopsBy};
 ghost use Rattle.hl_survey.specs.Surveys.{AreSurveyed};
 ghost use Rattle.hl_hierarchy.specs.Naming.{EachBelow, at_number};
 ghost use Rattle.hl_hierarchy.specs.Hierarchies.{AreNamed, BreaksNaming, BreaksSurveyed, GoesOn};
@@ -42,6 +42,8 @@ fn name_directory<M: Machine>(
         (BreaksNaming geometry.now found.now parents.old ino) machine.old machine.new) }
     ensures machine { OnlyReads M.history M.blocks M.faults M.write_faults M.say_faults
         machine.old machine.new }
+    ensures fault { MatchResult result (λ _. M.faults machine.new ≡ M.faults machine.old)
+        (StopsBy (M.faults machine.old) (M.faults machine.new)) }
 {
     let entries = read_entries(alloc, machine, geometry, dir)?;
     if note_entries(found, parents, ino, entries.items()) {
@@ -74,6 +76,8 @@ fn name_number<M: Machine>(
         (BreaksNaming geometry.now found.now parents.old ino) machine.old machine.new) }
     ensures machine { OnlyReads M.history M.blocks M.faults M.write_faults M.say_faults
         machine.old machine.new }
+    ensures fault { MatchResult result (λ _. M.faults machine.new ≡ M.faults machine.old)
+        (StopsBy (M.faults machine.old) (M.faults machine.new)) }
 {
     match &found[ino as usize] {
         None => Ok(()),
@@ -105,6 +109,8 @@ fn name_all<M: Machine>(
         machine.old machine.new) }
     ensures machine { OnlyReads M.history M.blocks M.faults M.write_faults M.say_faults
         machine.old machine.new }
+    ensures fault { MatchResult result (λ _. M.faults machine.new ≡ M.faults machine.old)
+        (StopsBy (M.faults machine.old) (M.faults machine.new)) }
 {
     'numbers: for ino in 1..geometry.inodes {
         name_number(alloc, machine, geometry, found, parents, ino)?;
@@ -131,6 +137,8 @@ pub(crate) fn name_numbers<M: Machine>(
         machine.old machine.new) }
     ensures machine { OnlyReads M.history M.blocks M.faults M.write_faults M.say_faults
         machine.old machine.new }
+    ensures fault { MatchResult result (λ _. M.faults machine.new ≡ M.faults machine.old)
+        (StopsBy (M.faults machine.old) (M.faults machine.new)) }
 {
     let mut parents = vec![in alloc; 0; found.len()]?;
     name_all(alloc, machine, geometry, found, parents.as_mut_slice())?;

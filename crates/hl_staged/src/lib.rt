@@ -6,9 +6,7 @@ mod ends;
 mod lines;
 mod repeats;
 mod slots;
-mod stop;
 
 pub use ends::check_ends;
 pub use lines::check_lines;
 pub use slots::check_slots;
-pub use stop::CheckStop;

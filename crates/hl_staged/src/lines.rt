@@ -1,32 +1,32 @@
 //! Whether the staged lines of a disk hold the segments of their slots.
 
-ghost use Rattle.std.specs.Prelude.{◌≡◌, ◌↔◌, ℕ, ◌+◌, ◌*◌, ◌^◌, ◌<◌, ◌≤◌, List, length, IsTrue, IfOk, OnOk, Err};
+ghost use Rattle.std.specs.Prelude.{◌≡◌, ◌↔◌, ℕ, ◌+◌, ◌*◌, ◌^◌, ◌<◌, ◌≤◌, List, length, IsTrue, IfErr, IfOk, MatchResult, OnOk};
 ghost use Rattle.std.specs.List.{slice_index_or};
 ghost use Rattle.hl_addr.specs.Layout.{IsWithinLimits};
-ghost use Rattle.hl_media.specs.Causes.{HasCause, Rose};
+ghost use Rattle.hl_media.specs.Causes.{HasCause};
 ghost use Rattle.hl_media.specs.Moments.{Now};
-ghost use Rattle.hl_super.specs.declared.record.Record.{Record};
-ghost use Rattle.hl_summary.specs.declared.parts.Summary.{Summary};
 ghost use Rattle.hl_tseg.specs.declared.slot.Slot.TheVariants.{Free, Staged};
 ghost use Rattle.hl_tseg.specs.Segments.{SegmentHead};
 ghost use Rattle.hl_tables.specs.Values.{AreTables};
 ghost use Rattle.hl_view.specs.Lines.{IsSegment};
 ghost use Rattle.hl_log.specs.Logs.{OnlyReads, site_blocks};
 ghost use Rattle.hl_nodes.specs.declared.rule.Rule.TheVariants.{LineBytes};
-ghost use Rattle.hl_nodes.specs.Breaks.{Breaks};
 ghost use Rattle.hl_nodes.specs.Lines.{line_bytes, line_start};
 ghost use Rattle.hl_staged.specs.Lines.{IsOffLine};
 ghost use Rattle.hl_staged.specs.Slots.{HaveLines};
+ghost use Rattle.hl_staged.specs.Rules.{BreaksTried, KeepsRule};
+ghost use Rattle.hl_survey.specs.Stops.{Stops, StopsBy};
 ghost use Rattle.hl_nodes.specs.Telling.{Tells};
 
-use crate::stop::CheckStop;
 use hl_addr::Geometry;
 use hl_bytes::SegBuf;
 use hl_media::{Failed, Machine};
+use hl_nodes::Rule;
+use hl_survey::SurveyStop;
 use hl_tables::Tables;
 use hl_tseg::Slot;
 use hl_view::LineView;
-use std::alloc::{AllocError, Global};
+use std::alloc::Global;
 
 /// The first block of a line.
 pub(crate) fn line_start(geometry: &Geometry, line: u32) -> u32
@@ -118,31 +118,35 @@ fn off_line<M: Machine>(
     }
 }
 
-/// The first block of the first staged line that doesn't hold its slot's segment, if one doesn't
-/// (`Rule::LineBytes`). It reads each staged line once, into one buffer. The line of each staged
-/// slot is one of the disk, as the rule of slots has it.
+/// Whether each staged line holds its slot's segment; else the first block of the first that
+/// doesn't is told (`Rule::LineBytes`). It reads each staged line once, into one buffer. The line of
+/// each staged slot is one of the disk, as the rule of slots has it.
 pub fn check_lines<M: Machine>(
     alloc: Global,
     machine: &mut M,
     geometry: &Geometry,
     tables: &Tables,
-) -> Result<Option<u32>, CheckStop>
+) -> Result<(), SurveyStop>
     requires room { site_blocks geometry.now ≤ M.blocks machine.old }
     requires lines { HaveLines geometry.now tables.now.slots }
-    ensures told { IfOk result (λ off. Now (M.history machine.old)
-        (λ s. (rec : Record) (parts : List Summary)
-        → Tells (Breaks geometry.now s.content rec parts tables.now LineBytes) off)) }
-    ensures fault { result ≡ Err CheckStop.DiskFault
-        → Rose (M.faults machine.old) (M.faults machine.new) }
+    ensures kept { OnOk result (Now (M.history machine.old)
+        (λ s. KeepsRule geometry.now tables.now LineBytes s.content)) }
+    ensures stops { IfErr result (Stops M.history M.faults
+        (BreaksTried geometry.now tables.now LineBytes) machine.old machine.new) }
     ensures machine { OnlyReads M.history M.blocks M.faults M.write_faults M.say_faults
         machine.old machine.new }
+    ensures fault { MatchResult result (λ _. M.faults machine.new ≡ M.faults machine.old)
+        (StopsBy (M.faults machine.old) (M.faults machine.new)) }
 {
     let mut buffer = SegBuf::new(alloc, geometry.k)?;
     let slots = tables.slots().items();
     'slots: for i in 0..slots.len() {
         if let Some(block) = off_line(machine, geometry, slots[i], &mut buffer)? {
-            return Ok(Some(block));
+            return Err(SurveyStop::Damaged {
+                block,
+                rule: Rule::LineBytes,
+            });
         }
     }
-    Ok(None)
+    Ok(())
 }

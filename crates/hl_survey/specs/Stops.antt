@@ -28,6 +28,12 @@ abbrev pub BreaksPointers : Layout → TableValues → ℕ → Inode → Image �
 BreaksPointers g t own v image rule block = (rec : Record) (ino : ℕ) → IsInodeIn g image t ino v own
     → IsBroken g rec t image rule block
 
+-- the count of failed calls rose where a fault is told, and stays otherwise
+abbrev pub StopsBy : ℕ → ℕ → SurveyStop → Type 0
+StopsBy before now (stop.Damaged block rule) = now ≡ before
+StopsBy before now stop.DiskFault = Rose before now
+StopsBy before now stop.Memory = now ≡ before
+
 module _ {M : Type 0} where
   -- Damage is told where what reads gave has it, and a fault where the count rose; memory may be
   -- wanting at any time.

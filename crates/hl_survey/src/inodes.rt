@@ -1,12 +1,12 @@
 //! Inodes of a disk.
 
-ghost use Rattle.std.specs.Prelude.{◌≡◌, ◌<◌, length, IfErr, IfOk, MatchOption};
+ghost use Rattle.std.specs.Prelude.{◌≡◌, ◌<◌, length, IfErr, IfOk, MatchOption, MatchResult};
 ghost use Rattle.hl_media.specs.Moments.{Now};
 ghost use Rattle.hl_log.specs.Logs.{OnlyReads};
 ghost use Rattle.hl_inode.specs.Inodes.{IsInode};
 ghost use Rattle.hl_nodes.specs.Breaks.{IsOffInode};
 ghost use Rattle.hl_survey.specs.Surveys.{IsInodeOf};
-ghost use Rattle.hl_survey.specs.Stops.{BreaksInode, Stops};
+ghost use Rattle.hl_survey.specs.Stops.{BreaksInode, Stops, StopsBy};
 
 use crate::found::SurveyStop;
 use crate::reading::read_block;
@@ -51,6 +51,8 @@ pub(crate) fn read_inode<M: Machine>(
         (Stops M.history M.faults (BreaksInode ino own) machine.old machine.new) }
     ensures machine { OnlyReads M.history M.blocks M.faults M.write_faults M.say_faults
         machine.old machine.new }
+    ensures fault { MatchResult result (λ _. M.faults machine.new ≡ M.faults machine.old)
+        (StopsBy (M.faults machine.old) (M.faults machine.new)) }
 {
     let mut block = [0; BLOCK];
     read_block(machine, own, &mut block)?;

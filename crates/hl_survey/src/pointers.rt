@@ -1,6 +1,6 @@
 //! The pointers of an inode, its own and those in its pointer block.
 
-ghost use Rattle.std.specs.Prelude.{◌≡◌, ◌↔◌, ◌<◌, ◌≤◌, false, length, IfErr, IfOk, IsTrue, MatchOption, OnOk};
+ghost use Rattle.std.specs.Prelude.{◌≡◌, ◌↔◌, ◌<◌, ◌≤◌, false, length, IfErr, IfOk, IsTrue, MatchOption, MatchResult, OnOk};
 ghost use Rattle.hl_media.specs.History.{Image};
 ghost use Rattle.hl_media.specs.Moments.{Now};
 ghost use Rattle.hl_tables.specs.Values.{TableValues};
@@ -11,7 +11,7 @@ ghost use Rattle.hl_nodes.specs.Pointers.{pointer_of};
 ghost use Rattle.hl_nodes.specs.Breaks.{HasOffPointer};
 ghost use Rattle.hl_survey.specs.Surveys.{ArePointers, IsPointer};
 ghost use Rattle.hl_survey.specs.Pointing.{HasBlock, HasPointers, HoldsBlock, IsOffBlock, NamesOwnBlocks, SpellsPointers, number_at};
-ghost use Rattle.hl_survey.specs.Stops.{BreaksPointers, Stops};
+ghost use Rattle.hl_survey.specs.Stops.{BreaksPointers, Stops, StopsBy};
 
 use crate::found::SurveyStop;
 use crate::reading::read_block;
@@ -163,6 +163,8 @@ fn read_pointer_block<M: Machine>(
         machine.old machine.new) }
     ensures machine { OnlyReads M.history M.blocks M.faults M.write_faults M.say_faults
         machine.old machine.new }
+    ensures fault { MatchResult result (λ _. M.faults machine.new ≡ M.faults machine.old)
+        (StopsBy (M.faults machine.old) (M.faults machine.new)) }
 {
     if inode.single == NOTHING {
         return Ok(());
@@ -202,6 +204,8 @@ pub(crate) fn read_pointers<M: Machine>(
         (BreaksPointers geometry.now tables.now own inode.now) machine.old machine.new) }
     ensures machine { OnlyReads M.history M.blocks M.faults M.write_faults M.say_faults
         machine.old machine.new }
+    ensures fault { MatchResult result (λ _. M.faults machine.new ≡ M.faults machine.old)
+        (StopsBy (M.faults machine.old) (M.faults machine.new)) }
 {
     let mut block = [0; BLOCK];
     read_pointer_block(machine, geometry, own, inode, &mut block)?;

@@ -1,6 +1,6 @@
 //! The numbers of a disk, one after the other.
 
-ghost use Rattle.std.specs.Prelude.{◌≡◌, ◌≢◌, ◌<◌, ◌≤◌, length, slice_index, IfErr, IfOk};
+ghost use Rattle.std.specs.Prelude.{◌≡◌, ◌≢◌, ◌<◌, ◌≤◌, length, slice_index, IfErr, IfOk, MatchResult};
 ghost use Rattle.hl_media.specs.Moments.{Now};
 ghost use Rattle.hl_addr.specs.Layout.{table_blocks};
 ghost use Rattle.hl_super.specs.declared.record.Record.{Record};
@@ -8,7 +8,7 @@ ghost use Rattle.hl_image.specs.Places.{InLog, log_end};
 ghost use Rattle.hl_log.specs.Logs.{OnlyReads, site_blocks};
 ghost use Rattle.hl_tables.specs.Values.{AreTables};
 ghost use Rattle.hl_survey.specs.Surveys.{AreSurveyed, IsFound, IsFoundInode};
-ghost use Rattle.hl_survey.specs.Stops.{IsBroken, Stops};
+ghost use Rattle.hl_survey.specs.Stops.{IsBroken, Stops, StopsBy};
 
 use crate::entries::{is_off_entry, map_block};
 use crate::found::{FoundInode, SurveyStop};
@@ -42,6 +42,8 @@ fn survey_inode<M: Machine>(
         machine.old machine.new) }
     ensures machine { OnlyReads M.history M.blocks M.faults M.write_faults M.say_faults
         machine.old machine.new }
+    ensures fault { MatchResult result (λ _. M.faults machine.new ≡ M.faults machine.old)
+        (StopsBy (M.faults machine.old) (M.faults machine.new)) }
 {
     let address = tables.inode(ino);
     let inode = read_inode(machine, ino, address)?;
@@ -72,6 +74,8 @@ fn survey_number<M: Machine>(
         (IsBroken geometry.now rec.now tables.now) machine.old machine.new) }
     ensures machine { OnlyReads M.history M.blocks M.faults M.write_faults M.say_faults
         machine.old machine.new }
+    ensures fault { MatchResult result (λ _. M.faults machine.new ≡ M.faults machine.old)
+        (StopsBy (M.faults machine.old) (M.faults machine.new)) }
 {
     let address = tables.inode(ino);
     if is_off_entry(geometry, ino, address) {
@@ -102,10 +106,15 @@ pub fn survey<M: Machine>(
     requires tables { AreTables geometry.now tables.now }
     ensures surveyed { IfOk result (λ found. Now (M.history machine.old)
         (λ s. AreSurveyed geometry.now s.content tables.now found.items)) }
+
+    // So many are found even on a machine that tells nothing.
+    ensures count { IfOk result (λ found. length found.items ≡ geometry.now.inodes) }
     ensures stops { IfErr result (Stops M.history M.faults
         (IsBroken geometry.now rec.now tables.now) machine.old machine.new) }
     ensures machine { OnlyReads M.history M.blocks M.faults M.write_faults M.say_faults
         machine.old machine.new }
+    ensures fault { MatchResult result (λ _. M.faults machine.new ≡ M.faults machine.old)
+        (StopsBy (M.faults machine.old) (M.faults machine.new)) }
 {
     let mut found = Vec::new(alloc);
     'numbers: for ino in 0..geometry.inodes {

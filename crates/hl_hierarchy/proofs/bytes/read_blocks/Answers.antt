@@ -1,4 +1,4 @@
-use Rattle.std.proofs.Common.{◌≡◌, ℕ, ◌++◌, length, refl, ap, arith, length-append}
+use Rattle.std.proofs.Common.{◌≡◌, ℕ, ◌++◌, length, refl, ◌∙◌, ap, arith, length-append}
 use Rattle.std.specs.Prelude.{slice_index}
 use Rattle.std.proofs.lemmas.Result.{err_from_is_err_and}
 use Rattle.hl_media.specs.History.{Image, MachineState, content}
@@ -11,6 +11,7 @@ use Rattle.hl_hierarchy.proofs.bytes.read_blocks.Goals as goal
 pub pointers-init : goal.pointers-init
 pointers-init g c = record {
   machine = reads_none c.args.machine.now;
+  faults = refl;
   size = ap length c.new-bytes.ensures.items;
   blocks = λ h e j lt. absurd (omega arith);
 }
@@ -24,6 +25,7 @@ append_block-requires g c =
 pub pointers-preserved : goal.pointers-preserved
 pointers-preserved g c = record {
   machine = reads_then c.pointers.invariant.machine c.append_block.ensures.machine;
+  faults = c.in_ok-append_block.ensures.fault ∙ c.pointers.invariant.faults;
   size = omega (arith, c.in_ok-append_block.ensures.size, c.pointers.invariant.size);
   blocks = λ h e.
       let bytes = c.pointers.bytes.items in

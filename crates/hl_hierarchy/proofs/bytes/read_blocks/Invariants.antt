@@ -7,6 +7,7 @@ use Rattle.hl_hierarchy.proofs.bytes.read_blocks.Given as goal
 abbrev pub invariant-pointers : goal.invariant-pointers
 invariant-pointers g l = record {
   machine : OnlyReads {M = g.row.M.Denot} g.M.Machine.history g.M.Machine.blocks g.M.Machine.faults g.M.Machine.write_faults g.M.Machine.say_faults l.fn.machine l.machine;
+  faults : g.M.Machine.faults l.machine ≡ g.M.Machine.faults l.fn.machine;
   size : length l.bytes.items ≡ 4096 * l.i;
   blocks : Now (g.M.Machine.history l.fn.machine) (λ s. (j : ℕ) → j < l.i → s.content (slice_index l.pointers j) ≡ padded_block l.bytes.items j);
 }

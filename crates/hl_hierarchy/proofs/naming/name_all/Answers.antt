@@ -1,4 +1,4 @@
-use Rattle.std.proofs.Common.{◌≡◌, ℕ, length, ap, subst, arith}
+use Rattle.std.proofs.Common.{◌≡◌, ℕ, length, refl, ◌∙◌, ap, subst, arith}
 use Rattle.std.proofs.lemmas.Result.{err_from_is_err_and}
 use Rattle.hl_media.specs.History.{Image, MachineState, content}
 use Rattle.hl_addr.specs.Layout.{Layout}
@@ -14,6 +14,7 @@ use Rattle.hl_hierarchy.proofs.naming.name_all.Goals as goal
 pub numbers-init : goal.numbers-init
 numbers-init g c = record {
   machine = reads_none c.args.machine.now;
+  faults = refl;
   below = c.requires.free;
   named = λ h e t are. named_first c.args.found.now c.args.geometry.now (content h) t are c.args.parents.now c.requires.free;
 }
@@ -21,6 +22,7 @@ numbers-init g c = record {
 pub numbers-preserved : goal.numbers-preserved
 numbers-preserved g c = record {
   machine = reads_then c.numbers.invariant.machine c.name_number.ensures.machine;
+  faults = c.in_ok-name_number.ensures.fault ∙ c.numbers.invariant.faults;
   below = c.in_ok-name_number.ensures.below c.numbers.invariant.below;
   named = λ h e t are. held_before (g.M.Machine.history c.args.machine.now) (g.M.Machine.history c.numbers.machine) (λ (s : MachineState). GoesOn c.args.geometry.now s.content c.args.found.now c.numbers.parents c.name_number.new.parents c.numbers.ino)
       c.numbers.invariant.machine.unchanged c.in_ok-name_number.ensures.names h e t are (c.numbers.invariant.named h e t are);

@@ -1,4 +1,4 @@
-use Rattle.std.proofs.Common.{List, length, ◌≤◌, get_or, sym, ap, ◌∙◌, arith}
+use Rattle.std.proofs.Common.{List, length, ◌≤◌, get_or, refl, sym, ap, ◌∙◌, arith}
 use Rattle.hl_media.specs.History.{content}
 use Rattle.hl_tseg.specs.declared.slot.Slot.{Slot}
 use Rattle.hl_tseg.specs.declared.slot.Slot.TheVariants.{Free}
@@ -19,12 +19,15 @@ returns-in_err-block-clause-machine g c = reads_then c.slots.invariant.reads c.o
 pub returns-in-Some-clause-machine : goal.returns-in-Some-clause-machine
 returns-in-Some-clause-machine g c = reads_then c.slots.invariant.reads c.off_line.ensures.machine
 
-pub returns-in-Some-clause-told : goal.returns-in-Some-clause-told
-returns-in-Some-clause-told g c = λ h e rec parts.
-    let slots = c.items-slots.ensures.value ∙ ap (λ (x : SlotTable). x.slots) c.slots-2.ensures in
-    line_broken c.args.geometry.now c.args.tables.now (content h) rec parts c.slots.i c.in-Some.block
-    (off_before c.args.geometry.now c.args.tables.now.slots.slots (g.M.Machine.history c.args.machine.now) (g.M.Machine.history c.slots.machine) c.slots.invariant.reads.unchanged c.in_ok-block.field-0 c.slots.i
-    (get_or c.items-slots.result.now c.slots.i Free) (ap (λ (l : List Slot). get_or l c.slots.i Free) (sym slots)) c.in_ok-block.ensures.told c.in-Some.block c.in-Some.is h e)
+pub returns-in-Some-clause-stops : goal.returns-in-Some-clause-stops
+returns-in-Some-clause-stops g c = λ h e. (
+  refl,
+  λ rec parts.
+      let slots = c.items-slots.ensures.value ∙ ap (λ (x : SlotTable). x.slots) c.slots-2.ensures in
+      line_broken c.args.geometry.now c.args.tables.now (content h) rec parts c.slots.i c.in-Some.block
+      (off_before c.args.geometry.now c.args.tables.now.slots.slots (g.M.Machine.history c.args.machine.now) (g.M.Machine.history c.slots.machine) c.slots.invariant.reads.unchanged c.in_ok-block.field-0 c.slots.i
+      (get_or c.items-slots.result.now c.slots.i Free) (ap (λ (l : List Slot). get_or l c.slots.i Free) (sym slots)) c.in_ok-block.ensures.told c.in-Some.block c.in-Some.is h e),
+)
 
 pub slots-preserved : goal.slots-preserved
 slots-preserved g c =
@@ -32,12 +35,13 @@ slots-preserved g c =
     record {
       size = c.in_ok-block.ensures.size ∙ c.slots.invariant.size;
       reads = reads_then c.slots.invariant.reads c.off_line.ensures.machine;
+      faults = c.in_ok-block.ensures.fault.kept ∙ c.slots.invariant.faults;
       hold = hold_more c.args.geometry.now c.args.tables.now.slots.slots (g.M.Machine.history c.args.machine.now) (g.M.Machine.history c.slots.machine) c.slots.invariant.reads.unchanged c.in_ok-block.field-0 c.slots.i
           (get_or c.items-slots.result.now c.slots.i Free) (ap (λ (l : List Slot). get_or l c.slots.i Free) (sym slots)) c.in_ok-block.ensures.told c.in_default.is c.slots.invariant.hold;
     }
 
-pub returns-clause-told : goal.returns-clause-told
-returns-clause-told g c = λ h e rec parts.
+pub returns-clause-kept : goal.returns-clause-kept
+returns-clause-kept g c = λ h e rec parts.
     let slots = c.items-slots.ensures.value ∙ ap (λ (x : SlotTable). x.slots) c.slots-2.ensures in
     let all : length c.args.tables.now.slots.slots ≤ c.slots.i = omega (arith, ap length slots, c.slots-test.false) in
     lines_kept c.args.geometry.now c.args.tables.now (content h) rec parts c.slots.i all (λ m block lt. c.slots.invariant.hold m block lt h e)

@@ -36,6 +36,7 @@ numbers-preserved g c =
     let t = c.args.tables.now in
     record {
       machine = reads_then c.numbers.invariant.machine c.survey_number.ensures.machine;
+      faults = c.in_ok-survey_number.ensures.fault ∙ c.numbers.invariant.faults;
       count = length_pushed items c.push.new.self.items one c.numbers.ino c.numbers.invariant.count is;
       each = λ h e. each_pushed (λ (k : ℕ) (o : Option FoundInode). IsFound site (content h) t k o) None items c.push.new.self.items one c.numbers.ino c.numbers.invariant.count is (c.numbers.invariant.each h e)
           (held_before (g.M.Machine.history c.args.machine.now) (g.M.Machine.history c.numbers.machine) (λ (s : MachineState). IsFound site s.content t c.numbers.ino one)
@@ -48,3 +49,8 @@ returns-clause-surveyed g c h e =
     let inodes = ap (λ (x : Layout). x.inodes) c.geometry.view_is in
     let is : c.numbers.ino ≡ site.inodes = omega (arith, inodes, c.numbers-test.false, c.numbers.auto.ino-end) in
     all_surveyed site (content h) c.args.tables.now c.numbers.found.items (omega (arith, inodes, c.geometry.invariant.inode_count.0)) (λ k lt. c.numbers.invariant.each h e k (omega (arith, is))) (c.numbers.invariant.count ∙ is)
+
+pub returns-clause-count : goal.returns-clause-count
+returns-clause-count g c =
+    let inodes = ap (λ (x : Layout). x.inodes) c.geometry.view_is in
+    omega (arith, inodes, c.numbers-test.false, c.numbers.auto.ino-end, c.numbers.invariant.count)

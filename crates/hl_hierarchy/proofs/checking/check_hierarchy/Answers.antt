@@ -6,7 +6,7 @@ use Rattle.hl_nodes.specs.declared.rule.Rule.TheVariants.{LostInode}
 use Rattle.hl_hierarchy.specs.Climbing.{AreBelowRoot, IsLost}
 use Rattle.hl_hierarchy.proofs.NamedNumbers.{dir_of}
 use Rattle.hl_hierarchy.proofs.Kept.{hierarchy_kept, lost_breaks}
-use Rattle.hl_hierarchy.proofs.checking.try_rules.Goals as goal
+use Rattle.hl_hierarchy.proofs.checking.check_hierarchy.Goals as goal
 
 pub returns-in-None-clause-kept : goal.returns-in-None-clause-kept
 returns-in-None-clause-kept g c h e t are =
