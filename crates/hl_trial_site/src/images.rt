@@ -4,7 +4,6 @@
 mod broken;
 mod sparse;
 
-use hl_hierarchy::HierarchyAnswer;
 use hl_tree::{List, Node, Path};
 use hl_trial::images::{
     Counted, Looked, are_same, change, counts, files, files_with_away, image_with_away,
@@ -116,7 +115,7 @@ fn is_in_order(rt: &impl Abort, counted: &Counted) {
     assert_eq!(rt; counted.uses.get(7).copied(), Some(9));
     assert_eq!(rt; (counted.shared, counted.stray), (None, None));
     assert_eq!(rt; (counted.slot, counted.over), (None, None));
-    assert_eq!(rt; counted.hierarchy, HierarchyAnswer::Kept);
+    assert_eq!(rt; counted.hierarchy, Ok(()));
 }
 
 #[test]

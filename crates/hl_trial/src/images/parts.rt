@@ -8,7 +8,7 @@ ghost use Rattle.hl_tables.specs.Values.{AreTables};
 
 use crate::images::hand_made::BYTES;
 use hl_census::{charge, clean, live, named, over_quota, shared_block, stray_block, uses};
-use hl_hierarchy::{HierarchyAnswer, check_hierarchy};
+use hl_hierarchy::check_hierarchy;
 use hl_mem::MemMachine;
 use hl_recovery::{MountError, Recovered, recover};
 use hl_staged::check_slots;
@@ -32,7 +32,7 @@ pub struct Counted {
     pub slot: Option<u32>,
     pub over: Option<u32>,
     /// What is answered of the directories.
-    pub hierarchy: HierarchyAnswer,
+    pub hierarchy: Result<(), SurveyStop>,
 }
 
 /// A disk with these bytes.
@@ -63,7 +63,7 @@ fn count_all(
     alloc: Global,
     first: &Recovered,
     found: &[Option<FoundInode>],
-    hierarchy: HierarchyAnswer,
+    hierarchy: Result<(), SurveyStop>,
 ) -> Result<Counted, AllocError>
     requires blocks { length first.now.rec.tables ≡ table_blocks first.now.geometry }
     requires tables { AreTables first.now.geometry first.now.tables }
@@ -100,6 +100,6 @@ pub fn counts(alloc: Global, image: &[u8]) -> Result<Option<Counted>, MountError
     if found.len() != site.inodes as usize {
         return Ok(None);
     }
-    let hierarchy = check_hierarchy(alloc, &mut machine, site, &first.tables, &found);
+    let hierarchy = check_hierarchy(alloc, &mut machine, site, &found);
     Ok(Some(count_all(alloc, &first, &found, hierarchy)?))
 }
