@@ -2,13 +2,15 @@
 //! and that the parts of a mount succeed with ample memory.
 
 mod broken;
+mod parts;
 mod sparse;
 
 use hl_tree::{List, Node, Path};
 use hl_trial::images::{
-    Counted, Looked, are_same, change, counts, files, files_with_away, image_with_away,
-    image_with_units, look, plain_files, plain_image,
+    Looked, are_same, change, files, files_with_away, image_with_away, image_with_units, look,
+    plain_files, plain_image,
 };
+use parts::{Counted, counts};
 use std::alloc::Global;
 use std::process::Abort;
 use std::test::*;

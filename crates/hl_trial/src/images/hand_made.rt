@@ -10,7 +10,7 @@ use std::alloc::{AllocError, Global};
 /// The blocks up to the end of the lines, and their bytes.
 pub(crate) const BLOCKS: usize = 1_984;
 
-pub(crate) const BYTES: usize = 8_126_464;
+pub const BYTES: usize = 8_126_464;
 
 /// The first of the four table blocks.
 pub(crate) const TABLES: usize = 100;

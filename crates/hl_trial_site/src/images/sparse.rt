@@ -1,10 +1,11 @@
 //! The sparse image: its nodes, and what a survey of it finds.
 
+use super::parts::surveyed;
 use hl_addr::NOTHING;
 use hl_inode::Kind;
 use hl_nodes::{FoundBlock, FoundNode, Rule};
 use hl_survey::{FoundInode, SurveyStop};
-use hl_trial::images::{AWAY, change, nodes, sparse_image, surveyed};
+use hl_trial::images::{AWAY, change, nodes, sparse_image};
 use std::alloc::Global;
 use std::process::Abort;
 use std::test::*;

@@ -6,13 +6,13 @@ ghost use Rattle.hl_addr.specs.Layout.{table_blocks};
 ghost use Rattle.hl_image.specs.Places.{IsLogPlace};
 ghost use Rattle.hl_tables.specs.Values.{AreTables};
 
-use crate::images::hand_made::BYTES;
 use hl_census::{charge, clean, live, named, over_quota, shared_block, stray_block, uses};
 use hl_hierarchy::check_hierarchy;
 use hl_mem::MemMachine;
 use hl_recovery::{MountError, Recovered, recover};
 use hl_staged::check_slots;
 use hl_survey::{FoundInode, SurveyStop, survey};
+use hl_trial::images::BYTES;
 use std::alloc::{AllocError, Global};
 
 /// What is counted of a disk that was recovered and surveyed.
