@@ -11,6 +11,7 @@ pub mod Claims
 pub mod ClaimedBlocks
 pub mod Exact
 pub mod Cleaned
+pub mod Failing
 pub mod Shelves
 pub mod StagingLines
 pub mod Keeping

@@ -22,6 +22,8 @@ use Rattle.hl_model.specs.Cleaning.{LogUse}
 use Rattle.hl_model.specs.FileCalls.{file_call}
 use Rattle.hl_model.specs.Stagings.{stage, chosen}
 use Rattle.hl_model.specs.Rules.{rules, running}
+use Rattle.hl_model.specs.Units.{Middles}
+use Rattle.hl_model.proofs.Failing.{failed_gives_up}
 use Rattle.hl_model.specs.Steps.{State, SiteStep, IsRuled, IsGivenUp, given_up}
 use Rattle.hl_model.specs.Runs.{shelf_after, plain_after, Writes, InPlain, IsSite, Stepped, Run, plain_run, AreReplies}
 
@@ -119,21 +121,20 @@ module _ (g : Layout) (shelf : Shelf) (s : SiteState) (segment : List ℕ) (site
   fault_stays (FileCall now call) = refl
   fault_stays event = refl
 
-module _ (g : Layout) (shelf : Shelf) (segment : List ℕ) (before : State) (event : SiteEvent) (after : State) (site : IsSite shelf before.site) (room : before.site.next_serial < 2 ^ 64 - 1) (writes : Writes g shelf before.site segment event) (runs : after.site.stopped ≡ None) where
-  gives_up : (answer : SiteAnswer) → (plain_after g (plain shelf before.site.tree) event answer ≡ plain shelf before.site.tree) → ((said : _) → answer ≡ answers.Done said → ⊥) → (shelf_after shelf before.site.next_serial segment answer ≡ shelf)
-      → IsGivenUp g before event after → Next g shelf before.site segment site room event (answer, after.site)
-  gives_up answer stays other same up = next_given_up g shelf before.site segment site room event answer stays other same after.site
-      (ap (core g before.site) up.left ∙ given_up_core g shelf before.site segment site room event)
+module _ (g : Layout) (shelf : Shelf) (mid : Middles) (before : State) (event : SiteEvent) (after : State) (site : IsSite shelf before.site) (room : before.site.next_serial < 2 ^ 64 - 1) (writes : Writes g shelf before.site mid.segment event) (runs : after.site.stopped ≡ None) where
+  gives_up : (answer : SiteAnswer) → (plain_after g (plain shelf before.site.tree) event answer ≡ plain shelf before.site.tree) → ((said : _) → answer ≡ answers.Done said → ⊥) → (shelf_after shelf before.site.next_serial mid.segment answer ≡ shelf)
+      → IsGivenUp g before event after → Next g shelf before.site mid.segment site room event (answer, after.site)
+  gives_up answer stays other same up = next_given_up g shelf before.site mid.segment site room event answer stays other same after.site
+      (ap (core g before.site) up.left ∙ given_up_core g shelf before.site mid.segment site room event)
 
-  by_rules : (answer : SiteAnswer) → IsRuled g shelf before event answer after → Next g shelf before.site segment site room event (answer, after.site)
-  by_rules answer told = subst (Next g shelf before.site segment site room event) told.told (next_rules g shelf before.site segment site room told.log event writes)
+  by_rules : (answer : SiteAnswer) → IsRuled g shelf mid before event answer after → Next g shelf before.site mid.segment site room event (answer, after.site)
+  by_rules answer told = subst (Next g shelf before.site mid.segment site room event) told.told (next_rules g shelf before.site mid.segment site room mid.first event writes)
 
   -- one step in which no write failed
-  pub step_in_plain : (answer : SiteAnswer) → SiteStep g shelf before event answer after → InPlain g shelf before.site segment event answer after.site × IsSite (shelf_after shelf before.site.next_serial segment answer) after.site
-  step_in_plain answers.Memory (may, step) = gives_up answers.Memory (memory_stays g shelf before.site segment site room event) (λ said e. cc) refl step
-  step_in_plain answers.LogFull (may, step) = gives_up answers.LogFull (full_stays g shelf before.site segment site room event) (λ said e. cc) refl step
-  step_in_plain answers.Eio (may, rose, inl up) = gives_up answers.Eio (fault_stays g shelf before.site segment site room event) (λ said e. cc) refl up
-  step_in_plain answers.Eio (may, rose, inr broken) = let differ : Some after.faults ≡ None = sym broken.stopped ∙ runs in cc
+  pub step_in_plain : (answer : SiteAnswer) → SiteStep g shelf mid before event answer after → InPlain g shelf before.site mid.segment event answer after.site × IsSite (shelf_after shelf before.site.next_serial mid.segment answer) after.site
+  step_in_plain answers.Memory (may, step) = gives_up answers.Memory (memory_stays g shelf before.site mid.segment site room event) (λ said e. cc) refl step
+  step_in_plain answers.LogFull (full, step) = gives_up answers.LogFull (full_stays g shelf before.site mid.segment site room event) (λ said e. cc) refl step
+  step_in_plain answers.Eio step = gives_up answers.Eio (fault_stays g shelf before.site mid.segment site room event) (λ said e. cc) refl (failed_gives_up g shelf mid before event after runs step)
   step_in_plain answer step = by_rules answer step
 
 -- In a run each reply is that of plain files, and the plain tree is that which the calls leave.
@@ -143,8 +144,8 @@ module _ (g : Layout) where
   run_in_plain shelf before [] last after site run =
       ((λ i. plain (run.0 i) (run.1 i).site.tree), tt, subst (λ sh. IsSite sh after.site) (sym run.0) (subst (λ (st : State). IsSite shelf st.site) (sym run.1) site))
   run_in_plain shelf before (entry ∷ entries) last after site (mid, step, runs, room, writes, rest) =
-      let one = step_in_plain g shelf entry.segment before entry.event mid site room writes runs entry.answer step in
-      let more = run_in_plain (shelf_after shelf before.site.next_serial entry.segment entry.answer) mid entries last after one.1 rest in (
+      let one = step_in_plain g shelf entry.mid before entry.event mid site room writes runs entry.answer step in
+      let more = run_in_plain (shelf_after shelf before.site.next_serial entry.mid.segment entry.answer) mid entries last after one.1 rest in (
         more.0 ∙ ap (λ t. plain_run g t entries) one.0.tree,
         (one.0.reply, subst (λ t. AreReplies g t entries) one.0.tree more.1),
         more.2,

@@ -37,8 +37,12 @@ use Rattle.hl_lines.specs.declared.state.LineState.TheVariants.{Empty, Staging}
 abbrev pub site_a : Layout
 site_a = record { k = 64; log = 16; lines = 16; inodes = 512; volumes = 4 ∷ 4 ∷ [] }
 
+-- a log with ten clean segments in which nothing is dirty
+abbrev pub log_with : List ℕ → List Live → LogUse
+log_with cleaned live = record { number = 1; cleaned = cleaned; live = live; clean = 10; dirty = 0; tidy = true; left = false }
+
 abbrev pub no_log : LogUse
-no_log = record { cleaned = []; live = [] }
+no_log = log_with [] []
 
 -- a site just mounted, with that tree
 abbrev pub fresh_site : PlacedTree → SiteState
@@ -164,11 +168,11 @@ module _ (shelf : Shelf) (t : PlacedTree) where
   abbrev segment : ℕ → ℕ → ℕ → Live
   segment n charge tables = record { segment = n; charge = charge; tables = tables }
 
-  pub the_least_live_segment_is_cleaned : clean_one site_a (staged_site 0 t) (record { cleaned = 2 ∷ []; live = segment 1 9 0 ∷ segment 2 0 0 ∷ segment 3 2 1 ∷ segment 4 3 0 ∷ segment 5 1 2 ∷ [] }) ≡ Ok (answers.Cleaned 3, staged_site 0 t)
+  pub the_least_live_segment_is_cleaned : clean_one site_a (staged_site 0 t) (log_with (2 ∷ []) (segment 1 9 0 ∷ segment 2 0 0 ∷ segment 3 2 1 ∷ segment 4 3 0 ∷ segment 5 1 2 ∷ [])) ≡ Ok (answers.Cleaned 3, staged_site 0 t)
   unfolding clean_one
   the_least_live_segment_is_cleaned = refl
 
-  pub a_quarter_at_most_is_live : clean_one site_a (staged_site 0 t) (record { cleaned = []; live = segment 1 16 1 ∷ segment 2 0 40 ∷ [] }) ≡ Err answers.NoneLeft
+  pub a_quarter_at_most_is_live : clean_one site_a (staged_site 0 t) (log_with [] (segment 1 16 1 ∷ segment 2 0 40 ∷ [])) ≡ Err answers.NoneLeft
   unfolding clean_one
   a_quarter_at_most_is_live = refl
 

@@ -10,7 +10,7 @@ use Rattle.hl_model.specs.Begins.{begin_need}
 use Rattle.hl_media.specs.declared.job.JobNote.{JobNote}
 use Rattle.hl_model.specs.Cache.{AreCleanLines, IsCache, IsOut}
 use Rattle.hl_model.specs.Claims.{Claim, IsNoGreater, MeetsClaim, claim_of}
-use Rattle.hl_model.specs.Cleaning.{AreEmptied, LogUse}
+use Rattle.hl_model.specs.Cleaning.{LogUse}
 use Rattle.hl_model.specs.Events.{SiteEvent, Back, EndJob, ends_no_job}
 use Rattle.hl_model.specs.InSlots.{AreInSlots}
 use Rattle.hl_model.specs.Keeping.{AreHeld, BringsBack, Follow, JobsFollow}
@@ -23,6 +23,7 @@ use Rattle.hl_model.specs.Runs.{AreReplies, IsSite, Run, Stepped, Writes, plain_
 use Rattle.hl_model.specs.Shelves.{JobOut, KeepsShelf}
 use Rattle.hl_model.specs.Site.{SiteState}
 use Rattle.hl_model.specs.Steps.{SiteStep, State}
+use Rattle.hl_model.specs.Units.{AreEmptied, Middles}
 
 -- WHOLE RUNS
 
@@ -55,9 +56,9 @@ StagingStays = (g : Layout) (s : SiteState) → AreCleanLines s.lines s.order
 
 -- a step in which no write failed keeps what holds of lines, slots and jobs
 abbrev pub CachesStay : Type 0
-CachesStay = (g : Layout) (shelf : Shelf) (before : State) (event : SiteEvent) (answer : SiteAnswer) (after : State)
+CachesStay = (g : Layout) (shelf : Shelf) (mid : Middles) (before : State) (event : SiteEvent) (answer : SiteAnswer) (after : State)
     → IsCache g before.site → IsAllowed before.site event → before.site.next_serial < 2 ^ 64 - 1
-    → after.site.stopped ≡ None → SiteStep g shelf before event answer after → IsCache g after.site
+    → after.site.stopped ≡ None → SiteStep g shelf mid before event answer after → IsCache g after.site
 
 -- it holds of the site that a mount gives
 abbrev pub MountsGiveCaches : Type 0
@@ -83,14 +84,14 @@ JobsAreNotStale = (g : Layout) (s : SiteState) → IsCache g s
 
 -- in such a step each away block stays in a segment that a slot holds
 abbrev pub AwayBlocksStayInSlots : Type 0
-AwayBlocksStayInSlots = (g : Layout) (shelf : Shelf) (before : State) (event : SiteEvent) (answer : SiteAnswer) (after : State)
+AwayBlocksStayInSlots = (g : Layout) (shelf : Shelf) (mid : Middles) (before : State) (event : SiteEvent) (answer : SiteAnswer) (after : State)
     → IsSite shelf before.site → AreInSlots before.site
-    → after.site.stopped ≡ None → SiteStep g shelf before event answer after → AreInSlots after.site
+    → after.site.stopped ≡ None → SiteStep g shelf mid before event answer after → AreInSlots after.site
 
 -- in such a step the segments that were cleaned since the last checkpoint go on holding no block of the tree
 abbrev pub CleanedStayEmpty : Type 0
-CleanedStayEmpty = (g : Layout) (shelf : Shelf) (before : State) (event : SiteEvent) (answer : SiteAnswer) (after : State)
-    → AreEmptied before.log → after.site.stopped ≡ None → SiteStep g shelf before event answer after
+CleanedStayEmpty = (g : Layout) (shelf : Shelf) (mid : Middles) (before : State) (event : SiteEvent) (answer : SiteAnswer) (after : State)
+    → AreEmptied before.log → after.site.stopped ≡ None → SiteStep g shelf mid before event answer after
     → AreEmptied after.log
 
 -- THE SHELF
@@ -128,10 +129,10 @@ SmallerClaimsAreMet = (k : ℕ) (may : ℕ → List ℕ → Bool) (buffer : List
 
 -- in a step in which no write failed the claim of a job that stays out doesn't grow
 abbrev pub ClaimsDontGrow : Type 0
-ClaimsDontGrow = (g : Layout) (shelf : Shelf) (segment : List ℕ) (before : State) (event : SiteEvent) (answer : SiteAnswer) (after : State)
+ClaimsDontGrow = (g : Layout) (shelf : Shelf) (mid : Middles) (before : State) (event : SiteEvent) (answer : SiteAnswer) (after : State)
     → IsSite shelf before.site → IsCache g before.site → IsAllowed before.site event → before.site.next_serial < 2 ^ 64 - 1
-    → Writes g shelf before.site segment event → after.site.stopped ≡ None → SiteStep g shelf before event answer after
+    → Writes g shelf before.site mid.segment event → after.site.stopped ≡ None → SiteStep g shelf mid before event answer after
     → (job : JobNote) → IsOut job before.site.jobs → IsOut job after.site.jobs
     → IsNoGreater
-    (claim_of g after.site (plain (shelf_after shelf before.site.next_serial segment answer) after.site.tree) job)
+    (claim_of g after.site (plain (shelf_after shelf before.site.next_serial mid.segment answer) after.site.tree) job)
     (claim_of g before.site (plain shelf before.site.tree) job)

@@ -5,6 +5,7 @@ pub mod Cache
 pub mod Causes
 pub mod Claims
 pub mod Cleaning
+pub mod Dues
 pub mod Ends
 pub mod Events
 pub mod FileCalls
@@ -21,3 +22,4 @@ pub mod Shelves
 pub mod Site
 pub mod Stagings
 pub mod Steps
+pub mod Units

@@ -16,6 +16,7 @@ use Rattle.hl_model.specs.Site.{SiteState}
 use Rattle.hl_model.specs.Stagings.{chosen}
 use Rattle.hl_model.specs.Steps.{State, SiteStep}
 use Rattle.hl_model.specs.Ruled.{limits_of}
+use Rattle.hl_model.specs.Units.{Middles}
 
 -- a staging brings a segment to the shelf
 abbrev pub shelf_after : Shelf → ℕ → List ℕ → SiteAnswer → Shelf
@@ -48,21 +49,21 @@ pub record IsSite (shelf : Shelf) (s : SiteState) : Type 0 where
 
 -- WHOLE RUNS
 
--- what was asked and answered, with the segment that a staging wrote
+-- what was asked and answered, and what the step did in between
 pub record Stepped : Type 0 where
   pub event : SiteEvent
   pub answer : SiteAnswer
-  pub segment : List ℕ
+  pub mid : Middles
 
 -- steps one after another, up to where the site stops or the serials end
 abbrev pub Run : Layout → Shelf → State → List Stepped → Shelf → State → Type 0
 Run g shelf before [] last after = (last ≡ shelf) × (after ≡ before)
 Run g shelf before (entry ∷ entries) last after = (mid : State)
-    × SiteStep g shelf before entry.event entry.answer mid
+    × SiteStep g shelf entry.mid before entry.event entry.answer mid
     × (mid.site.stopped ≡ None)
     × (before.site.next_serial < 2 ^ 64 - 1)
-    × Writes g shelf before.site entry.segment entry.event
-    × Run g (shelf_after shelf before.site.next_serial entry.segment entry.answer) mid entries last after
+    × Writes g shelf before.site entry.mid.segment entry.event
+    × Run g (shelf_after shelf before.site.next_serial entry.mid.segment entry.answer) mid entries last after
 
 -- the plain tree after a run
 abbrev pub plain_run : Layout → Files → List Stepped → Files
