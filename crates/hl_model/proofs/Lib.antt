@@ -21,3 +21,4 @@ pub mod KeptSegments
 pub mod KeptStep
 pub mod ClaimSteps
 pub mod WorkedExamples
+pub mod StepExamples
