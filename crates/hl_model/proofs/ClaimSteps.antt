@@ -315,7 +315,7 @@ module _ (g : Layout) (shelf last : Shelf) (s new : SiteState) (site : IsSite sh
   claim_within = record { homes = slot_within; copied = copy_within job.kind }
 
 module _ (g : Layout) (shelf : Shelf) (mid : Middles) (before : State) (event : SiteEvent) (after : State) (site : IsSite shelf before.site) (cache : IsCache g before.site) (allowed : IsAllowed before.site event) (room : before.site.next_serial < 2 ^ 64 - 1)
-    (writes : Writes g shelf before.site mid.segment event) (runs : after.site.stopped ≡ None) where
+    (runs : after.site.stopped ≡ None) where
   abbrev Facts : SiteState → Type 0
   Facts new = Homes g before.site new × Aways g shelf before.site site new
 
@@ -341,10 +341,10 @@ module _ (g : Layout) (shelf : Shelf) (mid : Middles) (before : State) (event : 
   facts answer step = by_rules answer step
 
   -- the claim of a job that stays out is no greater behind a step
-  pub step_keeps_claims : (answer : SiteAnswer) → SiteStep g shelf mid before event answer after → (job : JobNote) → IsOut job before.site.jobs → IsOut job after.site.jobs
+  pub step_keeps_claims : (answer : SiteAnswer) → Writes g shelf before.site mid.segment event answer → SiteStep g shelf mid before event answer after → (job : JobNote) → IsOut job before.site.jobs → IsOut job after.site.jobs
       → IsNoGreater (claim_of g after.site (plain (shelf_after shelf before.site.next_serial mid.segment answer) after.site.tree) job) (claim_of g before.site (plain shelf before.site.tree) job)
-  step_keeps_claims answer step job out still =
+  step_keeps_claims answer writes step job out still =
       let both = facts answer step in
       claim_within g shelf (shelf_after shelf before.site.next_serial mid.segment answer) before.site after.site site cache
-      (step_in_plain g shelf mid before event after site room writes runs answer step).1
+      (step_in_plain g shelf mid before event after site room answer writes runs step).1
       (λ serial less. old_segment shelf before.site.next_serial mid.segment answer serial less) both.0 both.1 job out still

@@ -16,6 +16,7 @@ pub mod Shelves
 pub mod StagingLines
 pub mod Keeping
 pub mod Steps
+pub mod Stopped
 pub mod Runs
 pub mod KeptSegments
 pub mod KeptStep

@@ -39,10 +39,11 @@ RepliesArePlain = (g : Layout) (shelf : Shelf) (before : State) (steps : List St
     → IsSite shelf before.site → Run g shelf before steps last after
     → AreReplies g (plain shelf before.site.tree) steps
 
--- the state stays one of a site
+-- the state stays one of a site while it runs
 abbrev pub RunsStaySites : Type 0
 RunsStaySites = (g : Layout) (shelf : Shelf) (before : State) (steps : List Stepped) (last : Shelf) (after : State)
-    → IsSite shelf before.site → Run g shelf before steps last after → IsSite last after.site
+    → IsSite shelf before.site → Run g shelf before steps last after
+    → after.site.stopped ≡ None → IsSite last after.site
 
 -- LINES, SLOTS AND JOBS
 
@@ -131,7 +132,7 @@ SmallerClaimsAreMet = (k : ℕ) (may : ℕ → List ℕ → Bool) (buffer : List
 abbrev pub ClaimsDontGrow : Type 0
 ClaimsDontGrow = (g : Layout) (shelf : Shelf) (mid : Middles) (before : State) (event : SiteEvent) (answer : SiteAnswer) (after : State)
     → IsSite shelf before.site → IsCache g before.site → IsAllowed before.site event → before.site.next_serial < 2 ^ 64 - 1
-    → Writes g shelf before.site mid.segment event → after.site.stopped ≡ None → SiteStep g shelf mid before event answer after
+    → Writes g shelf before.site mid.segment event answer → after.site.stopped ≡ None → SiteStep g shelf mid before event answer after
     → (job : JobNote) → IsOut job before.site.jobs → IsOut job after.site.jobs
     → IsNoGreater
     (claim_of g after.site (plain (shelf_after shelf before.site.next_serial mid.segment answer) after.site.tree) job)
