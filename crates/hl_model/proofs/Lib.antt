@@ -9,7 +9,10 @@ pub mod CacheSteps
 pub mod CacheStep
 pub mod Claims
 pub mod ClaimedBlocks
+pub mod StagedAt
 pub mod Exact
+pub mod Reopened
+pub mod Standing
 pub mod Cleaned
 pub mod Failing
 pub mod Shelves

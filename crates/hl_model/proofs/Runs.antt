@@ -26,7 +26,7 @@ use Rattle.hl_model.specs.Rules.{rules, running}
 use Rattle.hl_model.specs.Units.{Middles}
 use Rattle.hl_model.proofs.Failing.{failed_gives_up}
 use Rattle.hl_model.specs.Steps.{State, SiteStep, IsRuled, HasBroken, RunsOn, IsGivenUp, given_up}
-use Rattle.hl_model.specs.Runs.{shelf_after, plain_after, Writes, InPlain, IsSite, Stepped, Run, plain_run, AreReplies, IsReply, Takes, shelf_behind, shelf_failed}
+use Rattle.hl_model.specs.Runs.{shelf_after, plain_after, Writes, InPlain, IsSite, Stepped, Run, plain_run, AreReplies, IsReply, StaysStopped, Takes, shelf_behind, shelf_failed}
 
 module _ (g : Layout) (shelf : Shelf) (s : SiteState) (segment : List ℕ) (site : IsSite shelf s) (room : s.next_serial < 2 ^ 64 - 1) where
   fresh : IsNewSerial s.next_serial s.tree
@@ -251,9 +251,35 @@ module _ (g : Layout) where
         more.2,
       )
 
-  running_site : (shelf : Shelf) (s : SiteState) → Stands shelf s → s.stopped ≡ None → IsSite shelf s
+  pub running_site : (shelf : Shelf) (s : SiteState) → Stands shelf s → s.stopped ≡ None → IsSite shelf s
   running_site shelf s (inl (runs, site)) none = site
   running_site shelf s (inr (faults, stopped)) none = let wrong : Some faults ≡ None = sym stopped ∙ none in cc
 
   pub run_keeps_site : (shelf : Shelf) (before : State) (entries : List Stepped) (last : Shelf) (after : State) → IsSite shelf before.site → Run g shelf before entries last after → after.site.stopped ≡ None → IsSite last after.site
   run_keeps_site shelf before entries last after site run none = running_site last after.site (run_in_plain shelf before entries last after (stands_now shelf before.site site) run).2 none
+
+  -- behind a stop neither the tree nor the shelf changes
+  module _ (shelf : Shelf) (mid : Middles) (before : State) (event : SiteEvent) (after : State) (faults : ℕ) (stopped : before.site.stopped ≡ Some faults) where
+    abbrev StaysBy : SiteAnswer → Type 0
+    StaysBy answer = IsStill g before.site after.site × (shelf_behind event answer after.site.stopped shelf before.site.next_serial mid.segment ≡ shelf)
+
+    stays_told : (answer : SiteAnswer) → IsRuled g shelf mid before event answer after → StaysBy answer
+    stays_told answer told = let calm = subst (IsCalm g before.site) told.told (stopped_calm g before.site faults stopped mid.first shelf event) in
+        (calm.still, calm_shelf g shelf event answer calm.says after.site.stopped before.site.next_serial mid.segment)
+
+    step_stays : (answer : SiteAnswer) → SiteStep g shelf mid before event answer after → StaysBy answer
+    step_stays answers.Memory (may, step) = (given_up_still g before event after step, refl)
+    step_stays answers.LogFull (finds, step) = (given_up_still g before event after step, refl)
+    step_stays answers.Eio step = absurd (stopped_calls_none g before.site event faults stopped step.may)
+    step_stays answer step = stays_told answer step
+
+  pub run_stays_stopped : (shelf : Shelf) (before : State) (entries : List Stepped) (last : Shelf) (after : State) (faults : ℕ) → before.site.stopped ≡ Some faults → Run g shelf before entries last after → StaysStopped faults shelf before last after
+  run_stays_stopped shelf before [] last after faults stopped run = record {
+    stopped = ap (λ (s : State). s.site.stopped) run.1 ∙ stopped;
+    tree = ap (λ (s : State). s.site.tree) run.1;
+    shelf = run.0;
+  }
+  run_stays_stopped shelf before (entry ∷ entries) last after faults stopped (mid, takes, rest) =
+      let one = step_stays shelf entry.mid before entry.event mid faults stopped entry.answer takes.step in
+      let more = run_stays_stopped (shelf_behind entry.event entry.answer mid.site.stopped shelf before.site.next_serial entry.mid.segment) mid entries last after faults (one.0.stopped ∙ stopped) rest in
+      record { stopped = more.stopped; tree = more.tree ∙ ap (λ (c : PlacedTree × ℕ). c.0) one.0.core; shelf = more.shelf ∙ one.1 }

@@ -11,17 +11,19 @@ use Rattle.hl_media.specs.declared.job.JobNote.{JobNote}
 use Rattle.hl_model.specs.Cache.{AreCleanLines, IsCache, IsOut}
 use Rattle.hl_model.specs.Claims.{Claim, IsNoGreater, MeetsClaim, claim_of}
 use Rattle.hl_model.specs.Cleaning.{LogUse}
+use Rattle.hl_model.specs.Closed.{IsClosed, tables_of}
 use Rattle.hl_model.specs.Events.{SiteEvent, Back, EndJob, ends_no_job}
 use Rattle.hl_model.specs.InSlots.{AreInSlots}
 use Rattle.hl_model.specs.Keeping.{AreHeld, BringsBack, Follow, JobsFollow}
 use Rattle.hl_lines.specs.declared.state.LineState.TheVariants.{Empty, Staging}
 use Rattle.hl_lines.specs.Lines.{segment_of}
-use Rattle.hl_model.specs.Mounted.{AreOpeningTables, OpeningTables, mounted}
+use Rattle.hl_model.specs.Mounted.{AreOpeningTables, IsMounted, OpeningTables, mounted}
 use Rattle.hl_model.specs.Ruled.{told_of}
 use Rattle.hl_model.specs.Rules.{rules}
-use Rattle.hl_model.specs.Runs.{AreReplies, IsSite, Run, Stepped, Writes, plain_run, shelf_after}
+use Rattle.hl_model.specs.Runs.{AreReplies, IsSite, Run, StaysStopped, Stepped, Takes, Writes, plain_run, shelf_after, shelf_behind}
 use Rattle.hl_model.specs.Shelves.{JobOut, KeepsShelf}
 use Rattle.hl_model.specs.Site.{SiteState}
+use Rattle.hl_model.specs.Standing.{IsStanding}
 use Rattle.hl_model.specs.Steps.{SiteStep, State}
 use Rattle.hl_model.specs.Units.{AreEmptied, Middles}
 
@@ -44,6 +46,40 @@ abbrev pub RunsStaySites : Type 0
 RunsStaySites = (g : Layout) (shelf : Shelf) (before : State) (steps : List Stepped) (last : Shelf) (after : State)
     → IsSite shelf before.site → Run g shelf before steps last after
     → after.site.stopped ≡ None → IsSite last after.site
+
+-- and so it does once a write failed: it stays stopped, with its tree, and the shelf stays
+abbrev pub StoppedSitesStay : Type 0
+StoppedSitesStay = (g : Layout) (shelf : Shelf) (before : State) (steps : List Stepped) (last : Shelf) (after : State)
+    (faults : ℕ) → before.site.stopped ≡ Some faults → Run g shelf before steps last after
+    → StaysStopped faults shelf before last after
+
+-- THE INVARIANT
+
+-- a step of a site that goes on running keeps what holds of it
+abbrev pub StepsStand : Type 0
+StepsStand = (g : Layout) (shelf : Shelf) (before : State) (entry : Stepped) (after : State)
+    → IsStanding g shelf before → Takes g shelf before entry after → after.site.stopped ≡ None
+    → IsStanding g
+    (shelf_behind entry.event entry.answer after.site.stopped shelf before.site.next_serial entry.mid.segment) after
+
+-- and so does a run
+abbrev pub RunsStand : Type 0
+RunsStand = (g : Layout) (shelf : Shelf) (before : State) (steps : List Stepped) (last : Shelf) (after : State)
+    → IsStanding g shelf before → Run g shelf before steps last after → after.site.stopped ≡ None
+    → IsStanding g last after
+
+-- it holds of the state that a mount gives, whose files are placed over the shelf
+abbrev pub MountsStand : Type 0
+MountsStand = (g : Layout) (shelf : Shelf) (tree : PlacedTree) (tables : OpeningTables) (counts : List ℕ) (s : State)
+    → AreOpeningTables g tables → length counts ≡ length g.volumes → IsMounted g tree tables counts s
+    → IsSite shelf (mounted g tree tables counts) → AreInSlots (mounted g tree tables counts)
+    → IsStanding g shelf s
+
+-- and of that which a mount gives of what a closing leaves
+abbrev pub ClosedSitesStandAgain : Type 0
+ClosedSitesStandAgain = (g : Layout) (shelf : Shelf) (before after : State) (counts : List ℕ) (again : State)
+    → IsStanding g shelf before → IsClosed before after → length counts ≡ length g.volumes
+    → IsMounted g after.site.tree (tables_of after.site) counts again → IsStanding g shelf again
 
 -- LINES, SLOTS AND JOBS
 

@@ -5,6 +5,7 @@ pub mod Cache
 pub mod Causes
 pub mod Claims
 pub mod Cleaning
+pub mod Closed
 pub mod Dues
 pub mod Ends
 pub mod Events
@@ -21,5 +22,6 @@ pub mod Runs
 pub mod Shelves
 pub mod Site
 pub mod Stagings
+pub mod Standing
 pub mod Steps
 pub mod Units

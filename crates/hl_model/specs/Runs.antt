@@ -95,3 +95,9 @@ abbrev pub AreReplies : Layout → Files → List Stepped → Type 0
 AreReplies g files [] = Unit {0}
 AreReplies g files (entry ∷ entries) = IsReply g files entry.event entry.answer
     × AreReplies g (plain_after g files entry.event entry.answer) entries
+
+-- a site that stopped stays so, and neither its tree nor the shelf changes
+pub record StaysStopped (faults : ℕ) (first : Shelf) (before : State) (last : Shelf) (after : State) : Type 0 where
+  pub stopped : after.site.stopped ≡ Some faults
+  pub tree : after.site.tree ≡ before.site.tree
+  pub shelf : last ≡ first
