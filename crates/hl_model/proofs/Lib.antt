@@ -13,6 +13,7 @@ pub mod StagedAt
 pub mod Exact
 pub mod Reopened
 pub mod Standing
+pub mod LineRuns
 pub mod Cleaned
 pub mod Failing
 pub mod Shelves
