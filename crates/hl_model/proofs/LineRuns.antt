@@ -224,3 +224,79 @@ module _ (g : Layout) where
       (end_step_says g fetches.ends.mid.shelf fetches.ends.comes_back.asks.mid fetches.ends.mid.state fetches.ends.comes_back.job z.state answer fetches.ends.comes_back.asks.takes.step) e
   serves now call keep1 w1 answered1 z1 (Refused keep w room z t answer answered needs asks ends e) =
       quiet_call w z call answer answered (quiet_then w room z (quiet_need now call t w None room needs) (quiet_step room (BeginNeed t keep) answer z asks (λ f. refl))) (ending_is_not_done answer ends) e
+
+  -- a line that is no file call, done by steps that leave the files
+  plainly : (w z : WorldState) (l : Line) (answered : Said) → ((f : Files) → files_after g f l answered ≡ f) → ((f : Files) → IsReplyOf g f l answered) → Quietly w z → Plainly w l answered z
+  plainly w z l answered same free quiet = record { steps = quiet.steps; run = quiet.run; files = λ f. quiet.files f ∙ sym (same f); replies = λ f are. free f }
+
+  quiet_one : (w : WorldState) (event : SiteEvent) (answered : Said) (z : WorldState) → ((f : Files) (answer : SiteAnswer) → plain_after g f event answer ≡ f) → IsOneStep g w event answered z → Quietly w z
+  quiet_one w event answered z same one = quiet_step w event one.answer z one.asks (λ f. same f one.answer)
+
+  quiet_move : (w : WorldState) (o : Option HeldJob) (answered : Said) (z : WorldState) → MovesJob w o answered z → Quietly w z
+  quiet_move w None answered z moves = quiet_still w z (ap (λ (x : WorldState). x.shelf) moves.1) (ap (λ (x : WorldState). x.state) moves.1)
+  quiet_move w (Some job) answered z (how, carries, says) = quiet_carried w job how z (inr carries)
+
+  quiet_bring : (w : WorldState) (o : Option HeldJob) (answered : Said) (z : WorldState) → BringsIfOut g w o answered z → Quietly w z
+  quiet_bring w None answered z brings = quiet_still w z (ap (λ (x : WorldState). x.shelf) brings.1) (ap (λ (x : WorldState). x.state) brings.1)
+  quiet_bring w (Some job) answered z brings = quiet_step w (EndJob brings.comes_back.job) brings.answer z brings.comes_back.asks (λ f. refl)
+
+  does : (w : WorldState) (l : Line) (now : ℕ) (answered : Said) (z : WorldState) → DoesLine g w l now answered z → Plainly w l answered z
+  does w (line.File call) now answered z served = serves now call [] w answered z served
+  does w (line.Rank count) now answered z one = plainly w z _ answered (λ f. refl) (λ f. tt) (quiet_one w _ answered z (λ f answer. refl) one)
+  does w (line.Stage paths) now answered z one = plainly w z _ answered (λ f. refl) (λ f. tt) (quiet_one w _ answered z (λ f answer. refl) one)
+  does w line.Copy now answered z one = plainly w z _ answered (λ f. refl) (λ f. tt) (quiet_one w _ answered z (λ f answer. refl) one)
+  does w (line.Fetch path block) now answered z one = plainly w z _ answered (λ f. refl) (λ f. tt) (quiet_one w _ answered z (λ f answer. refl) one)
+  does w (line.Move number) now answered z moves = plainly w z _ answered (λ f. refl) (λ f. tt) (quiet_move w (job_to_move number w.held) answered z moves)
+  does w (line.End number) now answered z brings = plainly w z _ answered (λ f. refl) (λ f. tt) (quiet_bring w (job_out number w.held) answered z brings)
+  does w (line.Eject n) now answered z one = plainly w z _ answered (λ f. refl) (λ f. tt) (quiet_one w _ answered z (λ f answer. refl) one)
+  does w line.Clean now answered z one = plainly w z _ answered (λ f. refl) (λ f. tt) (quiet_one w _ answered z (λ f answer. refl) one)
+  does w line.Checkpoint now answered z one = plainly w z _ answered (λ f. refl) (λ f. tt) (quiet_one w _ answered z (λ f answer. refl) one)
+
+  -- WHOLE RUNS
+
+  record RunsPlainly (w : WorldState) (lines : List TimedLine) (said : List Said) (z : WorldState) : Type 0 where
+    steps : List Stepped
+    run : Run g w.shelf w.state steps z.shelf z.state
+    files : (f : Files) → plain_run g f steps ≡ files_behind g f lines said
+    replies : (f : Files) → AreReplies g f steps → ArePlain g f lines said
+
+  none_behind : (f : Files) (rest : List TimedLine) → files_behind g f rest [] ≡ f
+  none_behind f [] = refl
+  none_behind f (first ∷ rest) = refl
+
+  none_plain : (f : Files) (rest : List TimedLine) → ArePlain g f rest []
+  none_plain f [] = tt
+  none_plain f (first ∷ rest) = tt
+
+  runs_plainly : (w : WorldState) (lines : List TimedLine) (said : List Said) (z : WorldState) → LineRun g w lines said z → RunsPlainly w lines said z
+  runs_plainly w1 lines1 said1 z1 (NoMore w) = record { steps = []; run = (refl, refl); files = λ f. refl; replies = λ f are. tt }
+  runs_plainly w1 lines1 said1 z1 (Next w mid z first rest answered more line_does goes rest_run) =
+      let one = does w first.line first.now answered mid line_does in
+      let others = runs_plainly mid rest more z rest_run in
+      record {
+        steps = one.steps ++ others.steps;
+        run = run-append w.shelf w.state one.steps mid.shelf mid.state others.steps z.shelf z.state one.run others.run;
+        files = λ f. plain-append f one.steps others.steps ∙ ap (λ h. plain_run g h others.steps) (one.files f) ∙ others.files (files_after g f first.line answered);
+        replies = λ f are. (
+          one.replies f (replies-front f one.steps others.steps are),
+          others.replies (files_after g f first.line answered) (subst (λ h. AreReplies g h others.steps) (one.files f) (replies-back f one.steps others.steps are)),
+        );
+      }
+  runs_plainly w1 lines1 said1 z1 (Last w z first rest answered line_does ends) =
+      let one = does w first.line first.now answered z line_does in
+      record {
+        steps = one.steps;
+        run = one.run;
+        files = λ f. one.files f ∙ sym (none_behind (files_after g f first.line answered) rest);
+        replies = λ f are. (one.replies f are, none_plain (files_after g f first.line answered) rest);
+      }
+
+  pub lines_in_plain : (w : WorldState) (lines : List TimedLine) (said : List Said) (z : WorldState) → IsSite w.shelf w.state.site → LineRun g w lines said z
+      → (plain z.shelf z.state.site.tree ≡ files_behind g (plain w.shelf w.state.site.tree) lines said) × ArePlain g (plain w.shelf w.state.site.tree) lines said
+  lines_in_plain w lines said z site run =
+      let all = runs_plainly w lines said z run in
+      let plainly = run_in_plain g w.shelf w.state all.steps z.shelf z.state (stands_now g w.shelf w.state.site site) all.run in
+      (plainly.0 ∙ all.files (plain w.shelf w.state.site.tree), all.replies (plain w.shelf w.state.site.tree) plainly.1)
+
+  pub lines_are_one_run : (w : WorldState) (lines : List TimedLine) (said : List Said) (z : WorldState) → LineRun g w lines said z → (steps : List Stepped) × Run g w.shelf w.state steps z.shelf z.state
+  lines_are_one_run w lines said z run = let all = runs_plainly w lines said z run in (all.steps, all.run)

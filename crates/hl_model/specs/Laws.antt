@@ -17,6 +17,8 @@ use Rattle.hl_model.specs.InSlots.{AreInSlots}
 use Rattle.hl_model.specs.Keeping.{AreHeld, BringsBack, Follow, JobsFollow}
 use Rattle.hl_lines.specs.declared.state.LineState.TheVariants.{Empty, Staging}
 use Rattle.hl_lines.specs.Lines.{segment_of}
+use Rattle.hl_script.specs.declared.said.Said.{Said}
+use Rattle.hl_model.specs.LineRuns.{ArePlain, LineRun, TimedLine, files_behind}
 use Rattle.hl_model.specs.Mounted.{AreOpeningTables, IsMounted, OpeningTables, mounted}
 use Rattle.hl_model.specs.Ruled.{told_of}
 use Rattle.hl_model.specs.Rules.{rules}
@@ -26,6 +28,7 @@ use Rattle.hl_model.specs.Site.{SiteState}
 use Rattle.hl_model.specs.Standing.{IsStanding}
 use Rattle.hl_model.specs.Steps.{SiteStep, State}
 use Rattle.hl_model.specs.Units.{AreEmptied, Middles}
+use Rattle.hl_model.specs.Worlds.{WorldState}
 
 -- WHOLE RUNS
 
@@ -52,6 +55,25 @@ abbrev pub StoppedSitesStay : Type 0
 StoppedSitesStay = (g : Layout) (shelf : Shelf) (before : State) (steps : List Stepped) (last : Shelf) (after : State)
     (faults : ℕ) → before.site.stopped ≡ Some faults → Run g shelf before steps last after
     → StaysStopped faults shelf before last after
+
+-- THE LINES OF A SCRIPT
+
+-- lines are steps of one run
+abbrev pub LinesAreOneRun : Type 0
+LinesAreOneRun = (g : Layout) (w : WorldState) (lines : List TimedLine) (said : List Said) (after : WorldState)
+    → LineRun g w lines said after → (steps : List Stepped) × Run g w.shelf w.state steps after.shelf after.state
+
+-- nothing but the file calls that are replied to changes the files
+abbrev pub LinesLeaveFiles : Type 0
+LinesLeaveFiles = (g : Layout) (w : WorldState) (lines : List TimedLine) (said : List Said) (after : WorldState)
+    → IsSite w.shelf w.state.site → LineRun g w lines said after
+    → plain after.shelf after.state.site.tree ≡ files_behind g (plain w.shelf w.state.site.tree) lines said
+
+-- and each reply is that of plain files
+abbrev pub LinesArePlain : Type 0
+LinesArePlain = (g : Layout) (w : WorldState) (lines : List TimedLine) (said : List Said) (after : WorldState)
+    → IsSite w.shelf w.state.site → LineRun g w lines said after
+    → ArePlain g (plain w.shelf w.state.site.tree) lines said
 
 -- THE INVARIANT
 

@@ -5,6 +5,7 @@ ghost use Rattle.hl_model.specs.Laws.{AwayBlocksStayInSlots, CachesStay, ClaimsA
 ghost use Rattle.hl_model.specs.Laws.{ClaimsAreOrdered, ClaimsDontGrow, CleanedStayEmpty};
 ghost use Rattle.hl_model.specs.Laws.{ClosedSitesStandAgain, FetchesFindLines};
 ghost use Rattle.hl_model.specs.Laws.{JobsAreNotStale, MountsGiveCaches, MountsStand, RepliesArePlain};
+ghost use Rattle.hl_model.specs.Laws.{LinesAreOneRun, LinesArePlain, LinesLeaveFiles};
 ghost use Rattle.hl_model.specs.Laws.{RunsArePlain, RunsStand, RunsStaySites, SegmentsHaveOneLine};
 ghost use Rattle.hl_model.specs.Laws.{ShelvesStayKept, SmallerClaimsAreMet, StagingStays};
 ghost use Rattle.hl_model.specs.Laws.{StepsStand, StoppedSitesStay};
@@ -17,6 +18,14 @@ pub fn runs_are_plain()
     ensures replies { RepliesArePlain }
     ensures site { RunsStaySites }
     ensures stopped { StoppedSitesStay }
+{}
+
+/// The lines of a script, with all that serves a call, are one run of steps: nothing but the file calls
+/// that are replied to changes the files, and each reply is that of plain files.
+pub fn lines_are_plain()
+    ensures steps { LinesAreOneRun }
+    ensures files { LinesLeaveFiles }
+    ensures replies { LinesArePlain }
 {}
 
 /// What holds of a site between steps holds of the state that a mount gives, each step and each run keep
