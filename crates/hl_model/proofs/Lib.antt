@@ -27,3 +27,4 @@ pub mod KeptStep
 pub mod ClaimSteps
 pub mod WorkedExamples
 pub mod StepExamples
+pub mod StandingExample
