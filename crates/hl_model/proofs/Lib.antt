@@ -27,4 +27,5 @@ pub mod KeptStep
 pub mod ClaimSteps
 pub mod WorkedExamples
 pub mod StepExamples
+pub mod RunExamples
 pub mod StandingExample

@@ -21,7 +21,7 @@ use Rattle.hl_model.specs.FileCalls.{file_call}
 use Rattle.hl_model.specs.Site.{SiteState}
 use Rattle.hl_model.specs.Stagings.{stage}
 use Rattle.hl_model.specs.Steps.{State, SiteStep, AreLater, HasBroken, HasFailed, RunsOn, FindsFullBehind, told_behind}
-use Rattle.hl_model.specs.Units.{Cleans, CleansMore, HasCleaned, LogGoesOn, Middles, writes_more}
+use Rattle.hl_model.specs.Units.{CleansMore, LeavesLog, LogGoesOn, Middles, writes_more}
 use Rattle.hl_model.proofs.ClaimedBlocks.{in_cons, in_head, in_none}
 use Rattle.hl_model.proofs.WorkedExamples.{site_a, fresh_site, log_with, no_log}
 
@@ -140,6 +140,16 @@ module _ (shelf : Shelf) (t : PlacedTree) where
 
   pub a_checkpoint_writes_a_record : (mid : Middles) → Steps mid moved Checkpoint answers.Checkpointed (log_with [] []) → ⊥
   a_checkpoint_writes_a_record mid step = let later = step.leaves.number in let was = ap (λ (log : LogUse). log.number) step.first.goes in omega arith
+
+  -- a write takes a block out of a segment before its unit is written; none comes into one
+  pub a_file_call_takes_a_block_out_of_a_segment : (unit : LogUse) (segment : List ℕ) → LeavesLog (answers.Done replies.Ok) (record { first = little; unit = unit; segment = segment }) (dirty (log_with [] (used 1 8 ∷ [])))
+  a_file_call_takes_a_block_out_of_a_segment unit segment = record { number = refl; cleaned = refl; clean = refl; left = refl; live = (refl, omega arith, tt); quiet = λ left. cc }
+
+  pub no_file_call_fills_a_segment : (unit : LogUse) (segment : List ℕ) → LeavesLog (answers.Done replies.Ok) (record { first = little; unit = unit; segment = segment }) (dirty (log_with [] (used 1 10 ∷ []))) → ⊥
+  no_file_call_fills_a_segment unit segment changed = let less = changed.live.1 in omega arith
+
+  pub a_file_call_that_is_refused_leaves_the_log : (unit : LogUse) (segment : List ℕ) → LeavesLog (answers.Done (replies.Refused refusals.Enoent)) (record { first = little; unit = unit; segment = segment }) (dirty little) → ⊥
+  a_file_call_that_is_refused_leaves_the_log unit segment same = let wrong : false ≡ true = ap (λ (log : LogUse). log.tidy) same in cc
 
   -- A FULL LOG
 

@@ -68,21 +68,21 @@ abbrev pub answers_to : Layout → Shelf → SiteState → List SiteEvent → Li
 answers_to g shelf s [] = []
 answers_to g shelf s (event ∷ events) = and_then (λ next. answers_to g shelf next events) (told_of s (rules g s no_log shelf event))
 
-abbrev path : ℕ → List (List ℕ)
+abbrev pub path : ℕ → List (List ℕ)
 path name = (name ∷ []) ∷ []
 
 -- a file of one block
-abbrev one_block : List ℕ → PlacedFile
+abbrev pub one_block : List ℕ → PlacedFile
 one_block x = record { size = 1; used = 0; blocks = blocks.Here x ∷ [] }
 
 -- site A with that tree, its first slots staged in its first lines
-abbrev slots_with : ℕ → List Slot
+abbrev pub slots_with : ℕ → List Slot
 slots_with n = map (λ i. if nat_lt i n then Staged i (i + 1) else Free) (range_with_len 0 8)
 
-abbrev lines_with : ℕ → List LineState
+abbrev pub lines_with : ℕ → List LineState
 lines_with n = map (λ i. if nat_lt i n then Staging i else Empty) (range_with_len 0 16)
 
-abbrev staged_site : ℕ → PlacedTree → SiteState
+abbrev pub staged_site : ℕ → PlacedTree → SiteState
 staged_site n tree = record (fresh_site tree) { slots = slots_with n; lines = lines_with n; next_serial = n + 1 }
 
 -- stagings of one block each
@@ -104,7 +104,7 @@ module _ (x : List ℕ) (t : PlacedTree) (root : get t [] ≡ Some Dir) (there :
   a_directory_is_not_staged = simp root refl
 
 -- A job that comes back, of volume 0, as the site noted it. Its buffer carries what it should.
-abbrev job : ℕ → JobKind → ℕ → ℕ → ℕ → JobNote
+abbrev pub job : ℕ → JobKind → ℕ → ℕ → ℕ → JobNote
 job number kind t serial line = record { number = number; kind = kind; tseg = t; slot = t; serial = serial; line = line; volume = 0; faults = 0 }
 
 -- its volume's count: one more where a fault was met
