@@ -4,14 +4,14 @@ use Rattle.std.specs.FinMap.{get, insert}
 use Rattle.hl_tree.specs.declared.node.Node.TheVariants.{Dir, File}
 use Rattle.hl_tree.specs.Tree.{content_at, walk, walk_to_parent}
 use Rattle.hl_media.specs.declared.job.Carried.{Carried}
-use Rattle.hl_media.specs.declared.job.Carried.TheVariants.{Done}
+use Rattle.hl_media.specs.declared.job.Carried.TheVariants.{Done, EndOfMedium}
 use Rattle.hl_media.specs.declared.job.JobKind.TheVariants.{Copy, Fetch}
 use Rattle.hl_media.specs.declared.job.JobNote.{JobNote}
-use Rattle.hl_lines.specs.declared.state.LineState.TheVariants.{Clean, Empty}
+use Rattle.hl_lines.specs.declared.state.LineState.TheVariants.{Clean, Empty, Staging, Stuck}
 use Rattle.hl_script.specs.declared.line.Line.{Line}
 use Rattle.hl_script.specs.declared.line.Line.TheVariants as line
 use Rattle.hl_script.specs.declared.said.Said.TheVariants as said
-use Rattle.hl_tseg.specs.declared.slot.Slot.TheVariants.{Free, Home}
+use Rattle.hl_tseg.specs.declared.slot.Slot.TheVariants.{Free, Home, Spoilt, Staged}
 use Rattle.hl_placed.specs.Blocks.{Shelf}
 use Rattle.hl_placed.specs.Placed.{PlacedTree}
 use Rattle.hl_placed.specs.Staging.{IsNewSerial}
@@ -32,8 +32,8 @@ use Rattle.hl_model.specs.Runs.{Run, Stepped, Takes}
 use Rattle.hl_model.specs.Serving.{in_the_way}
 use Rattle.hl_model.specs.Site.{SiteState}
 use Rattle.hl_model.specs.Stagings.{stage}
-use Rattle.hl_model.specs.Steps.{State}
-use Rattle.hl_model.specs.Units.{Middles}
+use Rattle.hl_model.specs.Steps.{SiteStep, State}
+use Rattle.hl_model.specs.Units.{Middles, WritesMore}
 use Rattle.hl_model.specs.Worlds.{HeldJob, WorldState}
 use Rattle.hl_model.proofs.ClaimedBlocks.{in_head, in_none}
 use Rattle.hl_model.proofs.WorkedExamples.{site_a, fresh_site, job, log_with, no_log, one_block, path, staged_site}
@@ -187,6 +187,26 @@ module _ (shelf : Shelf) (t : PlacedTree) where
       later = record { faults = omega arith; write_faults = omega arith; still = λ no. refl };
     };
   }
+
+  pub a_segment_is_not_home_in_a_full_log : (middle : Middles) (after : LogUse) → SiteStep site_a shelf middle (at copying (record no_log { clean = 5 })) (EndJob (back copied (Some Done))) answers.Home (at home after) → ⊥
+  a_segment_is_not_home_in_a_full_log middle after step = let many = step.leaves.room.clean in let was = ap (λ (log : LogUse). log.clean) step.first.goes in omega arith
+
+  -- volume 0 is full, and the segment goes to volume 1, or, where there is no other, is stuck
+  writes_a_unit : WritesMore no_log no_log
+  writes_a_unit = record {
+    room = record { clean = omega arith; ran = refl };
+    cleans = record { more = []; cleaned = inl (refl, refl); few = omega arith; none = λ ran. refl; tidy = refl; emptied = λ n listed. in_none n listed };
+  }
+
+  pub a_segment_goes_to_another_volume : SiteStep site_a shelf (mid []) (at copying no_log) (EndJob (back copied (Some EndOfMedium))) (answers.Moved 1 0)
+      (at (record before { next_job = 2; full = true ∷ false ∷ []; slots = Spoilt ∷ Free ∷ Free ∷ Free ∷ Staged 0 1 ∷ replicate 3 Free; lines = Staging 4 ∷ replicate 15 Empty }) no_log)
+  unfolding end_job
+  a_segment_goes_to_another_volume = record { first = record { room = refl; goes = refl }; told = refl; leaves = writes_a_unit; calm = refl; later = record { faults = omega arith; write_faults = omega arith; still = λ no. refl } }
+
+  pub a_segment_without_another_volume_is_stuck : SiteStep (record site_a { volumes = 8 ∷ [] }) shelf (mid []) (at copying no_log) (EndJob (back copied (Some EndOfMedium))) answers.Stuck
+      (at (record before { next_job = 2; full = true ∷ false ∷ []; lines = Stuck 0 ∷ replicate 15 Empty }) no_log)
+  unfolding end_job
+  a_segment_without_another_volume_is_stuck = record { first = record { room = refl; goes = refl }; told = refl; leaves = writes_a_unit; calm = refl; later = record { faults = omega arith; write_faults = omega arith; still = λ no. refl } }
 
   abbrev timed : Line → TimedLine
   timed l = record { line = l; now = 0 }

@@ -1,29 +1,31 @@
 -- Worked examples of whole steps: right rows, and wrong steps that are none.
-use Rattle.std.proofs.Common.{arith, ◌≡◌, ℕ, ◌-◌, ◌^◌, ◌≤◌, ◌<◌, ◌⊎◌, Bool, true, false, nat_lt, List, [], ◌∷◌, ◌++◌, Option, Some, None, Ok, Err, refl, ap, sym, ◌∙◌, subst, inl, inr}
+use Rattle.std.proofs.Common.{arith, ◌≡◌, ℕ, ◌-◌, ◌^◌, ◌≤◌, ◌<◌, ◌⊎◌, Bool, true, false, nat_lt, List, [], ◌∷◌, ◌++◌, ◌&&◌, ◌||◌, not, is_ok, Option, Some, None, Ok, Err, refl, ap, sym, ◌∙◌, subst, inl, inr}
 use Rattle.std.specs.Prelude.{Contains}
 use Rattle.std.specs.FinMap.{get}
 use Rattle.hl_media.specs.Causes.{Rose}
 use Rattle.hl_tree.specs.declared.call.Call.TheVariants as calls
 use Rattle.hl_tree.specs.declared.call.Refusal.TheVariants as refusals
 use Rattle.hl_tree.specs.declared.call.Reply.TheVariants as replies
-use Rattle.hl_tree.specs.declared.node.Node.TheVariants.{Dir}
+use Rattle.hl_tree.specs.declared.node.Node.TheVariants.{Dir, File}
 use Rattle.hl_tree.specs.Tree.{content_at, walk, walk_to_parent}
 use Rattle.hl_placed.specs.Blocks.{Shelf}
 use Rattle.hl_placed.specs.Placed.{PlacedTree}
+use Rattle.hl_placed.specs.Staging.{put_away}
 use Rattle.hl_model.specs.Answers.{SiteAnswer}
 use Rattle.hl_model.specs.Answers as answers
 use Rattle.hl_model.specs.Begins.{begin_copy}
 use Rattle.hl_model.specs.Cleaning.{Live, LogUse, clean_one}
-use Rattle.hl_model.specs.Dues.{finds_full}
+use Rattle.hl_model.specs.Dues.{finds_full, is_due}
 use Rattle.hl_model.specs.Ends.{eject}
 use Rattle.hl_model.specs.Events.{SiteEvent, FileCall, Stage, BeginCopy, Eject, CleanOne, Checkpoint}
 use Rattle.hl_model.specs.FileCalls.{file_call}
+use Rattle.hl_model.specs.Ruled.{told_of}
 use Rattle.hl_model.specs.Site.{SiteState}
 use Rattle.hl_model.specs.Stagings.{stage}
 use Rattle.hl_model.specs.Steps.{State, SiteStep, AreLater, HasBroken, HasFailed, RunsOn, FindsFullBehind, told_behind}
-use Rattle.hl_model.specs.Units.{CleansMore, LeavesLog, LogGoesOn, Middles, writes_more}
+use Rattle.hl_model.specs.Units.{AreEmptied, Cleans, CleansMore, LeavesLog, WritesMore, LogGoesOn, Middles, writes_more}
 use Rattle.hl_model.proofs.ClaimedBlocks.{in_cons, in_head, in_none}
-use Rattle.hl_model.proofs.WorkedExamples.{site_a, fresh_site, log_with, no_log}
+use Rattle.hl_model.proofs.WorkedExamples.{site_a, fresh_site, log_with, no_log, one_block, path, staged_site, the_first_staging_takes_slot_0_and_line_0}
 
 -- a log segment in which so many blocks of the tree lie
 abbrev used : ℕ → ℕ → Live
@@ -107,7 +109,7 @@ module _ (shelf : Shelf) (t : PlacedTree) where
 
       by_passes : (b : Bool) → LogGoesOn b mid.unit little → ⊥
       by_passes true passes = by_more passes.more passes.cleaned
-      by_passes false same = let wrong : [] ≡ 1 ∷ [] = ap (λ (log : LogUse). log.cleaned) same ∙ listed in cc
+      by_passes false same = let wrong : ◌≡◌ {A = List ℕ} [] (1 ∷ []) = ap (λ (log : LogUse). log.cleaned) same ∙ listed in cc
 
   -- UNITS AND CHECKPOINTS
 
@@ -121,6 +123,47 @@ module _ (shelf : Shelf) (t : PlacedTree) where
       by_more : (more : List ℕ) → CleansMore more (log_with (1 ∷ []) (used 1 0 ∷ [])) mid.first → ⊥
       by_more more (inl kept) = let wrong : [] ≡ 1 ∷ more = sym none ∙ kept.1 in cc
       by_more more (inr anew) = let later = anew.0 in let was = ap (λ (log : LogUse). log.number) step.leaves in omega arith
+
+  abbrev marked : LogUse
+  marked = log_with (1 ∷ []) (used 1 0 ∷ [])
+
+  -- the segment 1 of a log holds no block of the tree
+  one_is_empty : (log : LogUse) → log.live ≡ used 1 0 ∷ [] → log.cleaned ≡ 1 ∷ [] → AreEmptied log
+  one_is_empty log live cleaned n listed = in_cons n 1 [] (subst (λ ns. Contains ns n) cleaned listed)
+      (λ is. record { one = used 1 0; listed = subst (λ ones. Contains ones (used 1 0)) (sym live) (in_head (used 1 0) []); same = is; empty = refl })
+      (λ no. in_none n no)
+
+  pub a_unit_is_written_first : (unit : LogUse) (segment : List ℕ) → Steps (record { first = marked; unit = unit; segment = segment }) (dirty marked) CleanOne answers.NoneLeft marked
+  unfolding clean_one
+  a_unit_is_written_first unit segment = record {
+    first = record { room = refl; goes = record { more = []; cleaned = inl (refl, refl); few = omega arith; none = λ ran. refl; tidy = refl; emptied = one_is_empty marked refl refl } };
+    told = refl;
+    leaves = refl;
+    calm = refl;
+    later = record { faults = omega arith; write_faults = omega arith; still = λ no. refl };
+  }
+
+  pub a_pass_ends_with_a_checkpoint : Cleans (dirty marked) (with_record 2 (log_with [] []))
+  a_pass_ends_with_a_checkpoint = record { more = []; cleaned = inr (omega arith, refl); few = omega arith; none = λ ran. refl; tidy = refl; emptied = λ n listed. in_none n listed }
+
+  abbrev left : LogUse → LogUse
+  left log = record log { left = true }
+
+  pub a_pass_that_is_left_may_have_cleaned : Cleans (dirty little) (left marked)
+  a_pass_that_is_left_may_have_cleaned = record { more = 1 ∷ []; cleaned = inl (refl, refl); few = omega arith; none = λ ran. cc; tidy = refl; emptied = one_is_empty (left marked) refl refl }
+
+  pub a_unit_cleans_no_segment : Cleans (dirty little) marked → ⊥
+  a_unit_cleans_no_segment cleans = by_more cleans.more (cleans.none refl) cleans.cleaned
+    where
+      by_more : (more : List ℕ) → more ≡ [] → CleansMore more (dirty little) marked → ⊥
+      by_more more none (inl kept) = let wrong : 1 ∷ [] ≡ [] = kept.1 ∙ none in cc
+      by_more more none (inr anew) = let later = anew.0 in omega arith
+
+  pub a_unit_leaves_nothing_dirty : Cleans (dirty little) (dirty little) → ⊥
+  a_unit_leaves_nothing_dirty cleans = let wrong : false ≡ true = cleans.tidy in cc
+
+  pub no_unit_is_written_while_passes_are_left : (before after : LogUse) → WritesMore (left before) after → ⊥
+  no_unit_is_written_while_passes_are_left before after writes = let wrong : true ≡ false = writes.room.ran in cc
 
   pub a_checkpoint_begins_anew : (segment : List ℕ) → Steps (record { first = moved; unit = moved; segment = segment }) moved Checkpoint answers.Checkpointed (with_record 2 (log_with [] []))
   a_checkpoint_begins_anew segment = record {
@@ -200,6 +243,51 @@ module _ (shelf : Shelf) (t : PlacedTree) where
     a_staging_that_is_refused_finds_no_full_log mid (inr behind, given_up) =
         let no : writes_more (told_behind site_a shelf mid.first s (Stage ([] ∷ []))).0 ≡ false = simp root refl in
         let wrong : true ≡ false = sym behind.more ∙ no in cc
+
+  module _ (root : get t [] ≡ Some Dir) (x : List ℕ) (there : get t (path 97) ≡ Some (File (one_block x))) where
+    abbrev staging : SiteEvent
+    staging = Stage (path 97 ∷ [])
+
+    abbrev staged : SiteState
+    staged = staged_site 1 (put_away 1 1 ((path 97, 0) ∷ []) t)
+
+    its_rules : stage site_a (staged_site 0 t) (path 97 ∷ []) ≡ Ok (answers.Staged 1 0 0 0, staged)
+    its_rules = the_first_staging_takes_slot_0_and_line_0 x t root there
+
+    none_due : (log : LogUse) → log.tidy ≡ true → log.left ≡ false → is_due site_a (staged_site 0 t) log staging ≡ false
+    none_due log tidy left = (λ i. (is_ok (its_rules i) && not (tidy i)) || (is_ok (its_rules i) && left i))
+
+    pub a_segment_is_staged : (unit : LogUse) (segment : List ℕ) → SiteStep site_a shelf (record { first = no_log; unit = unit; segment = segment }) (at_rest (staged_site 0 t) no_log) staging (answers.Staged 1 0 0 0) (at_rest staged no_log)
+    a_segment_is_staged unit segment = record {
+      first = record { room = (λ i. (is_ok (its_rules i) && false) && false); goes = subst (λ b. LogGoesOn b no_log no_log) (sym (none_due no_log refl refl)) refl };
+      told = ap (told_of (staged_site 0 t)) its_rules;
+      leaves = record {
+        room = record { clean = omega arith; ran = refl };
+        cleans = record { more = []; cleaned = inl (refl, refl); few = omega arith; none = λ ran. refl; tidy = refl; emptied = λ n listed. in_none n listed };
+      };
+      calm = refl;
+      later = record { faults = omega arith; write_faults = omega arith; still = λ no. refl };
+    }
+
+    pub nothing_is_staged_in_a_full_log : (mid : Middles) (after : LogUse) → SiteStep site_a shelf mid (at_rest (staged_site 0 t) (clean 5 no_log)) staging (answers.Staged 1 0 0 0) (at_rest staged after) → ⊥
+    nothing_is_staged_in_a_full_log mid after step =
+        let first = subst (λ b. LogGoesOn b (clean 5 no_log) mid.first) (none_due (clean 5 no_log) refl refl) step.first.goes in
+        let many = step.leaves.room.clean in
+        let was = ap (λ (log : LogUse). log.clean) first in
+        omega arith
+
+  -- WANT OF MEMORY
+
+  pub memory_is_wanting_before_a_unit : (mid : Middles) → Steps mid (dirty no_log) CleanOne answers.Memory (dirty no_log)
+  memory_is_wanting_before_a_unit mid = (refl, record { left = refl; log = inl refl; calm = refl; later = record { faults = omega arith; write_faults = omega arith; still = λ no. refl } })
+
+  pub memory_is_wanting_behind_a_unit : (mid : Middles) → Steps mid (dirty no_log) CleanOne answers.Memory no_log
+  memory_is_wanting_behind_a_unit mid = (refl, record {
+    left = refl;
+    log = inr (record { room = refl; goes = record { more = []; cleaned = inl (refl, refl); few = omega arith; none = λ ran. refl; tidy = refl; emptied = λ n listed. in_none n listed } });
+    calm = refl;
+    later = record { faults = omega arith; write_faults = omega arith; still = λ no. refl };
+  })
 
   -- COUNTS AND FAILED CALLS
 
