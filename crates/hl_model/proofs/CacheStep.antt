@@ -10,16 +10,18 @@ use Rattle.hl_model.specs.Events.{SiteEvent, EndJob}
 use Rattle.hl_model.specs.Ruled.{Ruled, told_of}
 use Rattle.hl_model.specs.Rules.{rules}
 use Rattle.hl_model.specs.Site.{SiteState}
+use Rattle.hl_model.specs.Units.{Middles}
+use Rattle.hl_model.proofs.Failing.{failed_gives_up}
 use Rattle.hl_model.specs.Steps.{State, SiteStep, IsRuled, IsGivenUp, given_up}
 use Rattle.hl_model.proofs.CacheSteps.{Keeps, cache-over, keeps_rules}
 
-module _ (g : Layout) (shelf : Shelf) (before : State) (event : SiteEvent) (after : State) (cache : IsCache g before.site) (allowed : IsAllowed before.site event) (room : before.site.next_serial < 2 ^ 64 - 1) (runs : after.site.stopped ≡ None) where
+module _ (g : Layout) (shelf : Shelf) (mid : Middles) (before : State) (event : SiteEvent) (after : State) (cache : IsCache g before.site) (allowed : IsAllowed before.site event) (room : before.site.next_serial < 2 ^ 64 - 1) (runs : after.site.stopped ≡ None) where
   by_told : (answer : SiteAnswer) (told : Ruled) → Keeps g before.site cache told → told_of before.site told ≡ (answer, after.site) → IsCache g after.site
   by_told answer (Ok told) keeps e = keeps answer after.site (ap Ok e)
   by_told answer (Err why) keeps e = subst (λ (p : SiteAnswer × SiteState). IsCache g p.1) e cache
 
-  by_rules : (answer : SiteAnswer) → IsRuled g shelf before event answer after → IsCache g after.site
-  by_rules answer told = by_told answer (rules g before.site told.log shelf event) (keeps_rules g before.site cache room told.log shelf event allowed) told.told
+  by_rules : (answer : SiteAnswer) → IsRuled g shelf mid before event answer after → IsCache g after.site
+  by_rules answer told = by_told answer (rules g before.site mid.first shelf event) (keeps_rules g before.site cache room mid.first shelf event allowed) told.told
 
   left_by : (event : SiteEvent) → IsAllowed before.site event → IsCache g (given_up g before.site event)
   left_by (EndJob job) back = cache-over g before.site cache job back
@@ -28,9 +30,8 @@ module _ (g : Layout) (shelf : Shelf) (before : State) (event : SiteEvent) (afte
   gives_up : IsGivenUp g before event after → IsCache g after.site
   gives_up up = subst (IsCache g) (sym up.left) (left_by event allowed)
 
-  pub step_keeps_cache : (answer : SiteAnswer) → SiteStep g shelf before event answer after → IsCache g after.site
+  pub step_keeps_cache : (answer : SiteAnswer) → SiteStep g shelf mid before event answer after → IsCache g after.site
   step_keeps_cache answers.Memory (may, step) = gives_up step
-  step_keeps_cache answers.LogFull (may, step) = gives_up step
-  step_keeps_cache answers.Eio (may, rose, inl up) = gives_up up
-  step_keeps_cache answers.Eio (may, rose, inr broken) = let differ : Some after.faults ≡ None = sym broken.stopped ∙ runs in cc
+  step_keeps_cache answers.LogFull (full, step) = gives_up step
+  step_keeps_cache answers.Eio step = gives_up (failed_gives_up g shelf mid before event after runs step)
   step_keeps_cache answer step = by_rules answer step

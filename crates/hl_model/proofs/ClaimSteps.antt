@@ -44,6 +44,8 @@ use Rattle.hl_model.specs.Rules.{rules, running}
 use Rattle.hl_model.specs.Runs.{IsSite, Writes, shelf_after}
 use Rattle.hl_model.specs.Site.{SiteState, RequestOutcome, Evol, Ebad}
 use Rattle.hl_model.specs.Stagings.{stage, chosen}
+use Rattle.hl_model.specs.Units.{Middles}
+use Rattle.hl_model.proofs.Failing.{failed_gives_up}
 use Rattle.hl_model.specs.Steps.{State, SiteStep, IsRuled, IsGivenUp, given_up}
 use Rattle.hl_model.proofs.ClaimedBlocks.{in_filter_map, in_range, out_filter_map, segment-within}
 use Rattle.hl_model.proofs.Keeping.{kept_segment}
@@ -312,8 +314,8 @@ module _ (g : Layout) (shelf last : Shelf) (s new : SiteState) (site : IsSite sh
   unfolding claim_of
   claim_within = record { homes = slot_within; copied = copy_within job.kind }
 
-module _ (g : Layout) (shelf : Shelf) (segment : List ℕ) (before : State) (event : SiteEvent) (after : State) (site : IsSite shelf before.site) (cache : IsCache g before.site) (allowed : IsAllowed before.site event) (room : before.site.next_serial < 2 ^ 64 - 1)
-    (writes : Writes g shelf before.site segment event) (runs : after.site.stopped ≡ None) where
+module _ (g : Layout) (shelf : Shelf) (mid : Middles) (before : State) (event : SiteEvent) (after : State) (site : IsSite shelf before.site) (cache : IsCache g before.site) (allowed : IsAllowed before.site event) (room : before.site.next_serial < 2 ^ 64 - 1)
+    (runs : after.site.stopped ≡ None) where
   abbrev Facts : SiteState → Type 0
   Facts new = Homes g before.site new × Aways g shelf before.site site new
 
@@ -322,8 +324,8 @@ module _ (g : Layout) (shelf : Shelf) (segment : List ℕ) (before : State) (eve
       (keeps_homes g before.site cache log shelf event allowed answer after.site same, keeps_aways g shelf before.site site log event answer after.site same)
   by_told log answer (Err why) is e = subst (λ (p : SiteAnswer × SiteState). Facts p.1) e (same_slots g before.site before.site refl, aways_before g shelf before.site site)
 
-  by_rules : (answer : SiteAnswer) → IsRuled g shelf before event answer after → Facts after.site
-  by_rules answer told = by_told told.log answer (rules g before.site told.log shelf event) refl told.told
+  by_rules : (answer : SiteAnswer) → IsRuled g shelf mid before event answer after → Facts after.site
+  by_rules answer told = by_told mid.first answer (rules g before.site mid.first shelf event) refl told.told
 
   left_by : (event : SiteEvent) → Facts (given_up g before.site event)
   left_by (EndJob job) = (same_slots g before.site (given_up g before.site (EndJob job)) refl, aways_before g shelf before.site site)
@@ -332,18 +334,17 @@ module _ (g : Layout) (shelf : Shelf) (segment : List ℕ) (before : State) (eve
   gives_up : IsGivenUp g before event after → Facts after.site
   gives_up up = subst Facts (sym up.left) (left_by event)
 
-  facts : (answer : SiteAnswer) → SiteStep g shelf before event answer after → Facts after.site
+  facts : (answer : SiteAnswer) → SiteStep g shelf mid before event answer after → Facts after.site
   facts answers.Memory (may, step) = gives_up step
-  facts answers.LogFull (may, step) = gives_up step
-  facts answers.Eio (may, rose, inl up) = gives_up up
-  facts answers.Eio (may, rose, inr broken) = let differ : Some after.faults ≡ None = sym broken.stopped ∙ runs in cc
+  facts answers.LogFull (full, step) = gives_up step
+  facts answers.Eio step = gives_up (failed_gives_up g shelf mid before event after runs step)
   facts answer step = by_rules answer step
 
   -- the claim of a job that stays out is no greater behind a step
-  pub step_keeps_claims : (answer : SiteAnswer) → SiteStep g shelf before event answer after → (job : JobNote) → IsOut job before.site.jobs → IsOut job after.site.jobs
-      → IsNoGreater (claim_of g after.site (plain (shelf_after shelf before.site.next_serial segment answer) after.site.tree) job) (claim_of g before.site (plain shelf before.site.tree) job)
-  step_keeps_claims answer step job out still =
+  pub step_keeps_claims : (answer : SiteAnswer) → Writes g shelf before.site mid.segment event answer → SiteStep g shelf mid before event answer after → (job : JobNote) → IsOut job before.site.jobs → IsOut job after.site.jobs
+      → IsNoGreater (claim_of g after.site (plain (shelf_after shelf before.site.next_serial mid.segment answer) after.site.tree) job) (claim_of g before.site (plain shelf before.site.tree) job)
+  step_keeps_claims answer writes step job out still =
       let both = facts answer step in
-      claim_within g shelf (shelf_after shelf before.site.next_serial segment answer) before.site after.site site cache
-      (step_in_plain g shelf segment before event after site room writes runs answer step).1
-      (λ serial less. old_segment shelf before.site.next_serial segment answer serial less) both.0 both.1 job out still
+      claim_within g shelf (shelf_after shelf before.site.next_serial mid.segment answer) before.site after.site site cache
+      (step_in_plain g shelf mid before event after site room answer writes runs step).1
+      (λ serial less. old_segment shelf before.site.next_serial mid.segment answer serial less) both.0 both.1 job out still

@@ -1,5 +1,5 @@
 -- How many lines may not be dropped, as one changes.
-use Rattle.std.proofs.Common.{arith, ◌≡◌, ℕ, zero, suc, ◌+◌, ◌≤◌, Bool, true, false, cond, List, [], ◌∷◌, filter, get_or, set, length}
+use Rattle.std.proofs.Common.{arith, ◌≡◌, ℕ, zero, suc, ◌+◌, ◌≤◌, Bool, true, false, cond, List, [], ◌∷◌, filter, get_or, set, length, refl, ap, sym, subst, T}
 use Rattle.hl_lines.specs.declared.state.LineState.{LineState}
 use Rattle.hl_lines.specs.declared.state.LineState.TheVariants.{Empty}
 use Rattle.hl_lines.specs.Lines.{is_held}
@@ -44,3 +44,16 @@ held-kept (line ∷ lines) zero state e =
     one_more true state lines = omega arith
     one_more false state lines = omega arith
 held-kept (line ∷ lines) (suc i) state e = before (is_held line) line (filter is_held (set lines i state)) (filter is_held lines) 0 (held-kept lines i state e)
+
+-- as many of each of two lists whose states are alike
+pub held-alike : (xs ys : List LineState) → length xs ≡ length ys → ((i : ℕ) → is_held (get_or xs i Empty) ≡ is_held (get_or ys i Empty)) → count_held xs ≡ count_held ys
+held-alike [] [] long alike = refl
+held-alike [] (y ∷ ys) long alike = absurd (omega arith)
+held-alike (x ∷ xs) [] long alike = absurd (omega arith)
+held-alike (x ∷ xs) (y ∷ ys) long alike = by_head (is_held x) (is_held y) (alike 0) (held-alike xs ys (omega arith) (λ i. alike (suc i)))
+  where
+    by_head : (a b : Bool) → a ≡ b → count_held xs ≡ count_held ys → length (cond a (x ∷ filter is_held xs) (filter is_held xs)) ≡ length (cond b (y ∷ filter is_held ys) (filter is_held ys))
+    by_head true true e rest = ap suc rest
+    by_head false false e rest = rest
+    by_head true false e rest = absurd (subst T e tt)
+    by_head false true e rest = absurd (subst T (sym e) tt)

@@ -33,6 +33,7 @@ use Rattle.hl_model.specs.Mounted.{AreOpeningTables, OpeningTables, line_of_slot
 use Rattle.hl_model.specs.Ruled.{Ruled, told_of}
 use Rattle.hl_model.specs.Site.{SiteState}
 use Rattle.hl_model.proofs.Sets.{is_there, true_false}
+use Rattle.hl_model.proofs.StagedAt.{at_staged, found_at, slot_of_line}
 use Rattle.hl_model.proofs.Victims.{victim_there}
 
 module _ (g : Layout) (s : SiteState) (cache : IsCache g s) where
@@ -147,7 +148,7 @@ module _ (g : Layout) (s : SiteState) (cache : IsCache g s) where
 
 module _ (g : Layout) (tree : PlacedTree) (tables : OpeningTables) (counts : List ℕ) (are : AreOpeningTables g tables) (long : length counts ≡ length g.volumes) where
   abbrev at : ℕ → Option ℕ
-  at line = position (λ slot. is (staged_line slot) line) tables.slots
+  at line = slot_of_line tables.slots line
 
   abbrev lines : List LineState
   lines = opening_lines g tables.slots
@@ -171,36 +172,6 @@ module _ (g : Layout) (tree : PlacedTree) (tables : OpeningTables) (counts : Lis
       let low = there_of line t clean_segment refl e in
       let wrong : None ≡ Some t = sym (no_clean (at line)) ∙ sym (ap clean_segment (line_is line low)) ∙ e in cc
 
-  is_line : (o : Option ℕ) (line : ℕ) → is o line ≡ true → o ≡ Some line
-  is_line None line e = absurd (subst T (sym e) tt)
-  is_line (Some n) line e = let same : n ≡ line = grind (arith, nat_tests) in ap Some same
-
-  -- the slot that waits for a line is found
-  at_staged : (line t : ℕ) → at line ≡ Some t → staged_line (get_or tables.slots t Free) ≡ Some line
-  at_staged line t e = let found = position-Some (λ slot. is (staged_line slot) line) tables.slots t Free e in is_line (staged_line (get_or tables.slots t Free)) line found.1
-
-  none_found : (p : Slot → Bool) (slots : List Slot) → position p slots ≡ None → (i : ℕ) → i < length slots → p (get_or slots i Free) ≡ false
-  none_found p [] e i low = absurd (omega arith)
-  none_found p (slot ∷ slots) e zero low = elim (p slot) as (λ b. p slot ≡ b → p slot ≡ false) [
-    | true ↦ λ f. let wrong : ⊥ = grind arith in absurd wrong
-    | false ↦ λ f. f
-  ] refl
-  none_found p (slot ∷ slots) e (suc i) low = elim (p slot) as (λ b. p slot ≡ b → p (get_or slots i Free) ≡ false) [
-    | true ↦ λ f. let wrong : ⊥ = grind arith in absurd wrong
-    | false ↦ λ f. none_found p slots (grind arith) i (omega arith)
-  ] refl
-
-  found_at : (line t : ℕ) → staged_line (get_or tables.slots t Free) ≡ Some line → at line ≡ Some t
-  found_at line t e = by_place (at line) refl
-    where
-      by_place : (o : Option ℕ) → at line ≡ o → at line ≡ Some t
-      by_place None f =
-          let low = is_there staged_line tables.slots t Free (λ same. let wrong : None ≡ Some line = sym same ∙ e in cc) in
-          let not_it = none_found (λ slot. is (staged_line slot) line) tables.slots f t low in
-          let it : is (staged_line (get_or tables.slots t Free)) line ≡ true = ap (λ o. is o line) e ∙ (let same : nat_eq line line ≡ true = grind (arith, nat_tests) in same) in
-          true_false (is (staged_line (get_or tables.slots t Free)) line) it not_it
-      by_place (Some u) f = f ∙ ap Some (are.one_line u t line (at_staged line u f) e)
-
   no_aside : (o : Option ℕ) → is_aside (line_of_slot o) ≡ false
   no_aside None = refl
   no_aside (Some t) = refl
@@ -222,8 +193,8 @@ module _ (g : Layout) (tree : PlacedTree) (tables : OpeningTables) (counts : Lis
     sizes = record { lines = length-map-range_with_len (λ line. line_of_slot (at line)) 0 g.lines; slots = are.slots; full = are.full; counts = long };
     order = record { clean = tt; all = λ line e. true_false (is_clean (get_or lines line Empty)) e (never is_clean none_clean line); once = tt };
     matched = record {
-      staged = λ line t e. at_staged line t (sym (held_is (at line)) ∙ sym (ap held_segment (line_is line (there_of line t held_segment refl e))) ∙ e);
-      staging = λ line t e. ap held_segment (line_is line (are.there t line e)) ∙ held_is (at line) ∙ found_at line t e;
+      staged = λ line t e. at_staged tables.slots line t (sym (held_is (at line)) ∙ sym (ap held_segment (line_is line (there_of line t held_segment refl e))) ∙ e);
+      staging = λ line t e. ap held_segment (line_is line (are.there t line e)) ∙ held_is (at line) ∙ found_at tables.slots are.one_line line t e;
       homes = λ line t e. absurd (never_clean line t e);
       one_line = λ line other t e f. absurd (never_clean line t e);
       one_slot = are.one_slot;

@@ -24,6 +24,8 @@ use Rattle.hl_model.specs.Rules.{rules, running}
 use Rattle.hl_model.specs.Runs.{IsSite}
 use Rattle.hl_model.specs.Site.{SiteState}
 use Rattle.hl_model.specs.Stagings.{stage, chosen}
+use Rattle.hl_model.specs.Units.{Middles}
+use Rattle.hl_model.proofs.Failing.{failed_gives_up}
 use Rattle.hl_model.specs.Steps.{State, SiteStep, IsRuled, IsGivenUp, given_up}
 use Rattle.hl_model.specs.Ruled.{Ruled, limits_of, told_of}
 use Rattle.hl_model.proofs.CacheSteps.{free_slot}
@@ -85,13 +87,13 @@ module _ (g : Layout) (shelf : Shelf) (s : SiteState) (site : IsSite shelf s) (k
   keeps log (Stage paths) = keeps_running s.stopped _ (keeps_stage paths)
   keeps log event = keeps_others log event refl
 
-module _ (g : Layout) (shelf : Shelf) (before : State) (event : SiteEvent) (after : State) (site : IsSite shelf before.site) (kept : AreInSlots before.site) (runs : after.site.stopped ≡ None) where
+module _ (g : Layout) (shelf : Shelf) (mid : Middles) (before : State) (event : SiteEvent) (after : State) (site : IsSite shelf before.site) (kept : AreInSlots before.site) (runs : after.site.stopped ≡ None) where
   by_told : (answer : SiteAnswer) (told : Ruled) → Keeps g shelf before.site site kept told → told_of before.site told ≡ (answer, after.site) → AreInSlots after.site
   by_told answer (Ok told) keeping e = keeping answer after.site (ap Ok e)
   by_told answer (Err why) keeping e = subst (λ (p : SiteAnswer × SiteState). AreInSlots p.1) e kept
 
-  by_rules : (answer : SiteAnswer) → IsRuled g shelf before event answer after → AreInSlots after.site
-  by_rules answer told = by_told answer (rules g before.site told.log shelf event) (keeps g shelf before.site site kept told.log event) told.told
+  by_rules : (answer : SiteAnswer) → IsRuled g shelf mid before event answer after → AreInSlots after.site
+  by_rules answer told = by_told answer (rules g before.site mid.first shelf event) (keeps g shelf before.site site kept mid.first event) told.told
 
   left_by : (event : SiteEvent) → AreInSlots (given_up g before.site event)
   left_by (EndJob job) = kept
@@ -100,9 +102,8 @@ module _ (g : Layout) (shelf : Shelf) (before : State) (event : SiteEvent) (afte
   gives_up : IsGivenUp g before event after → AreInSlots after.site
   gives_up up = subst AreInSlots (sym up.left) (left_by event)
 
-  pub step_keeps_serials : (answer : SiteAnswer) → SiteStep g shelf before event answer after → AreInSlots after.site
+  pub step_keeps_serials : (answer : SiteAnswer) → SiteStep g shelf mid before event answer after → AreInSlots after.site
   step_keeps_serials answers.Memory (may, step) = gives_up step
-  step_keeps_serials answers.LogFull (may, step) = gives_up step
-  step_keeps_serials answers.Eio (may, rose, inl up) = gives_up up
-  step_keeps_serials answers.Eio (may, rose, inr broken) = let differ : Some after.faults ≡ None = sym broken.stopped ∙ runs in cc
+  step_keeps_serials answers.LogFull (full, step) = gives_up step
+  step_keeps_serials answers.Eio step = gives_up (failed_gives_up g shelf mid before event after runs step)
   step_keeps_serials answer step = by_rules answer step

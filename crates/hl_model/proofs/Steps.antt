@@ -165,6 +165,23 @@ module _ (g : Layout) (shelf : Shelf) (s : SiteState) (segment : List ℕ) (is :
   no_call : (event : SiteEvent) → ((now : ℕ) (call : Call) → event ≡ FileCall now call → ⊥) → (answer : SiteAnswer) → IsReply g files event answer
   no_call event other answer now call said e f = absurd (other now call e)
 
+  -- a staging that is told says Staged
+  abbrev is_staged : SiteAnswer → Bool
+  is_staged (answers.Staged blocks volume slot line) = true
+  is_staged answer = false
+
+  staged_says : (paths : List (List (List ℕ))) (answer : SiteAnswer) (new : SiteState) → stage g s paths ≡ Ok (answer, new) → is_staged answer ≡ true
+  unfolding stage
+  staged_says paths answer new e = grind arith
+
+  held_by : (paths : List (List (List ℕ))) (answer : SiteAnswer) → is_staged answer ≡ true → Writes g shelf s segment (Stage paths) answer → HoldsBlocks files segment 1 (chosen g s paths)
+  held_by paths (answers.Staged blocks volume slot line) is writes = writes
+  held_by paths answer is writes = absurd (subst T (sym is) tt)
+
+  -- so it holds the blocks
+  pub held_in : (paths : List (List (List ℕ))) (answer : SiteAnswer) (new : SiteState) → stage g s paths ≡ Ok (answer, new) → Writes g shelf s segment (Stage paths) answer → HoldsBlocks files segment 1 (chosen g s paths)
+  held_in paths answer new e writes = held_by paths answer (staged_says paths answer new e) writes
+
   pub staged : (paths : List (List (List ℕ))) → HoldsBlocks files segment 1 (chosen g s paths) → (answer : SiteAnswer) (new : SiteState) → stage g s paths ≡ Ok (answer, new) → InPlain g shelf s segment (Stage paths) answer new
   unfolding stage
   staged paths holds answer new e =
@@ -175,8 +192,13 @@ module _ (g : Layout) (shelf : Shelf) (s : SiteState) (segment : List ℕ) (is :
         reply = no_call (Stage paths) (λ now call f. cc) answer;
       }
 
-  fits_stage : (paths : List (List (List ℕ))) → HoldsBlocks files segment 1 (chosen g s paths) → Fits (Stage paths) (stage g s paths)
-  fits_stage paths holds = fits_told (Stage paths) (stage g s paths) (λ answer e. record { tree = as_it_is answer; reply = no_call (Stage paths) (λ now call f. cc) answer }) (staged paths holds)
+  fits_stage : (paths : List (List (List ℕ))) (told : Ruled) → stage g s paths ≡ told → Writes g shelf s segment (Stage paths) (told_of s told).0 → Fits (Stage paths) told
+  fits_stage paths (Ok told) e writes = staged paths (held_in paths told.0 told.1 e writes) told.0 told.1 e
+  fits_stage paths (Err answer) e writes = record { tree = as_it_is answer; reply = no_call (Stage paths) (λ now call f. cc) answer }
+
+  fits_stage_if : (paths : List (List (List ℕ))) (stopped : Option ℕ) → Writes g shelf s segment (Stage paths) (told_of s (running stopped (stage g s paths))).0 → Fits (Stage paths) (running stopped (stage g s paths))
+  fits_stage_if paths None writes = fits_stage paths (stage g s paths) refl writes
+  fits_stage_if paths (Some faults) writes = record { tree = refl; reply = no_call (Stage paths) (λ now call f. cc) (answers.Stopped faults) }
 
   said_by : (now : ℕ) (call : Call) (answer : SiteAnswer) (r : Reply) → answer ≡ answers.Done r → reply (limits_of g) files call ≡ r → IsReply g files (FileCall now call) answer
   said_by now call answer r says is_reply now2 call2 said same h =
@@ -229,9 +251,9 @@ module _ (g : Layout) (shelf : Shelf) (s : SiteState) (segment : List ℕ) (is :
   fits_running event None told fits other = fits
   fits_running event (Some faults) told fits other = other faults
 
-  pub fits_rules : (log : LogUse) (event : SiteEvent) → Writes g shelf s segment event → Fits event (rules g s log shelf event)
+  pub fits_rules : (log : LogUse) (event : SiteEvent) → Writes g shelf s segment event (told_of s (rules g s log shelf event)).0 → Fits event (rules g s log shelf event)
   fits_rules log (FileCall now call) writes = fits_running (FileCall now call) s.stopped (file_call g s shelf now call) (fits_call now call) (λ faults. record { tree = refl; reply = λ now2 call2 said same h. cc })
-  fits_rules log (Stage paths) writes = fits_running (Stage paths) s.stopped (stage g s paths) (fits_stage paths writes) (λ faults. record { tree = refl; reply = no_call (Stage paths) (λ now call f. cc) (answers.Stopped faults) })
+  fits_rules log (Stage paths) writes = fits_stage_if paths s.stopped writes
   fits_rules log (Rank now count) writes = kept _ (λ answer. refl) (no_call _ (λ now call f. cc)) _ (keeps_running g s s.stopped _ (keeps_itself g s _))
   fits_rules log BeginCopy writes = kept _ (λ answer. refl) (no_call _ (λ now call f. cc)) _ (keeps_running g s s.stopped _ (keeps_begin_copy g s))
   fits_rules log (BeginFetch path block) writes = kept _ (λ answer. refl) (no_call _ (λ now call f. cc)) _ (keeps_running g s s.stopped _ (keeps_begin_fetch g s path block))

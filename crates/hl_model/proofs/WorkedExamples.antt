@@ -37,8 +37,12 @@ use Rattle.hl_lines.specs.declared.state.LineState.TheVariants.{Empty, Staging}
 abbrev pub site_a : Layout
 site_a = record { k = 64; log = 16; lines = 16; inodes = 512; volumes = 4 ∷ 4 ∷ [] }
 
+-- a log with ten clean segments in which nothing is dirty
+abbrev pub log_with : List ℕ → List Live → LogUse
+log_with cleaned live = record { number = 1; cleaned = cleaned; live = live; clean = 10; dirty = 0; tidy = true; left = false }
+
 abbrev pub no_log : LogUse
-no_log = record { cleaned = []; live = [] }
+no_log = log_with [] []
 
 -- a site just mounted, with that tree
 abbrev pub fresh_site : PlacedTree → SiteState
@@ -64,21 +68,21 @@ abbrev pub answers_to : Layout → Shelf → SiteState → List SiteEvent → Li
 answers_to g shelf s [] = []
 answers_to g shelf s (event ∷ events) = and_then (λ next. answers_to g shelf next events) (told_of s (rules g s no_log shelf event))
 
-abbrev path : ℕ → List (List ℕ)
+abbrev pub path : ℕ → List (List ℕ)
 path name = (name ∷ []) ∷ []
 
 -- a file of one block
-abbrev one_block : List ℕ → PlacedFile
+abbrev pub one_block : List ℕ → PlacedFile
 one_block x = record { size = 1; used = 0; blocks = blocks.Here x ∷ [] }
 
 -- site A with that tree, its first slots staged in its first lines
-abbrev slots_with : ℕ → List Slot
+abbrev pub slots_with : ℕ → List Slot
 slots_with n = map (λ i. if nat_lt i n then Staged i (i + 1) else Free) (range_with_len 0 8)
 
-abbrev lines_with : ℕ → List LineState
+abbrev pub lines_with : ℕ → List LineState
 lines_with n = map (λ i. if nat_lt i n then Staging i else Empty) (range_with_len 0 16)
 
-abbrev staged_site : ℕ → PlacedTree → SiteState
+abbrev pub staged_site : ℕ → PlacedTree → SiteState
 staged_site n tree = record (fresh_site tree) { slots = slots_with n; lines = lines_with n; next_serial = n + 1 }
 
 -- stagings of one block each
@@ -100,7 +104,7 @@ module _ (x : List ℕ) (t : PlacedTree) (root : get t [] ≡ Some Dir) (there :
   a_directory_is_not_staged = simp root refl
 
 -- A job that comes back, of volume 0, as the site noted it. Its buffer carries what it should.
-abbrev job : ℕ → JobKind → ℕ → ℕ → ℕ → JobNote
+abbrev pub job : ℕ → JobKind → ℕ → ℕ → ℕ → JobNote
 job number kind t serial line = record { number = number; kind = kind; tseg = t; slot = t; serial = serial; line = line; volume = 0; faults = 0 }
 
 -- its volume's count: one more where a fault was met
@@ -164,11 +168,11 @@ module _ (shelf : Shelf) (t : PlacedTree) where
   abbrev segment : ℕ → ℕ → ℕ → Live
   segment n charge tables = record { segment = n; charge = charge; tables = tables }
 
-  pub the_least_live_segment_is_cleaned : clean_one site_a (staged_site 0 t) (record { cleaned = 2 ∷ []; live = segment 1 9 0 ∷ segment 2 0 0 ∷ segment 3 2 1 ∷ segment 4 3 0 ∷ segment 5 1 2 ∷ [] }) ≡ Ok (answers.Cleaned 3, staged_site 0 t)
+  pub the_least_live_segment_is_cleaned : clean_one site_a (staged_site 0 t) (log_with (2 ∷ []) (segment 1 9 0 ∷ segment 2 0 0 ∷ segment 3 2 1 ∷ segment 4 3 0 ∷ segment 5 1 2 ∷ [])) ≡ Ok (answers.Cleaned 3, staged_site 0 t)
   unfolding clean_one
   the_least_live_segment_is_cleaned = refl
 
-  pub a_quarter_at_most_is_live : clean_one site_a (staged_site 0 t) (record { cleaned = []; live = segment 1 16 1 ∷ segment 2 0 40 ∷ [] }) ≡ Err answers.NoneLeft
+  pub a_quarter_at_most_is_live : clean_one site_a (staged_site 0 t) (log_with [] (segment 1 16 1 ∷ segment 2 0 40 ∷ [])) ≡ Err answers.NoneLeft
   unfolding clean_one
   a_quarter_at_most_is_live = refl
 

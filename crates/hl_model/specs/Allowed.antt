@@ -12,7 +12,7 @@ use Rattle.hl_model.specs.Site.{SiteState}
 pub record IsBack (s : SiteState) (job : Back) : Type 0 where
   pub out : IsOut job.note s.jobs
   pub later : job.note.faults ≤ job.faults
-  pub fault : (faults : ℕ) → job.carried ≡ Some (Fault faults) → (faults ≡ job.faults) × Rose job.note.faults job.faults
+  pub fault : (faults : ℕ) → job.carried ≡ Some (Fault faults) → Rose job.note.faults job.faults
   pub medium : job.carried ≡ Some EndOfMedium → job.note.kind ≡ Copy
 
 -- 1 to 64 paths, at most eight segments to keep, and a job that is the site's

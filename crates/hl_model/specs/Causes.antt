@@ -1,11 +1,12 @@
 -- Which events may take memory, call a device and write in the log.
-use Rattle.std.specs.Prelude.{Bool, true, false, ◌&&◌, not, Option, Some, None, is_some, is_none}
+use Rattle.std.specs.Prelude.{Bool, true, false, ◌&&◌, not, Option, Some, None, is_some, is_none, is_ok}
 use Rattle.hl_tree.specs.declared.call.Call.{Call}
 use Rattle.hl_tree.specs.declared.call.Call.TheVariants as calls
 use Rattle.hl_addr.specs.Layout.{Layout}
 use Rattle.hl_model.specs.Ends.{is_same, is_stale, kept_mark}
 use Rattle.hl_model.specs.Events.{SiteEvent, Back, FileCall, Rank, Stage, BeginCopy, BeginFetch, EndJob, Eject, CleanOne, Checkpoint, Post, NextRequest, Settle}
 use Rattle.hl_model.specs.Site.{SiteState}
+use Rattle.hl_model.specs.Stagings.{stage}
 use Rattle.hl_media.specs.declared.job.Carried.{Carried}
 use Rattle.hl_media.specs.declared.job.JobKind.{JobKind}
 use Rattle.hl_media.specs.declared.job.Carried.TheVariants.{Done, EndOfMedium, Fault}
@@ -47,10 +48,10 @@ module _ (g : Layout) (s : SiteState) where
   takes_memory (Eject line) = false
   takes_memory event = true
 
-  -- units, checkpoints and passes
+  -- units, checkpoints and passes; a staging that is refused writes none
   abbrev pub writes_log : SiteEvent → Bool
   writes_log (FileCall now call) = call_writes call
-  writes_log (Stage paths) = true
+  writes_log (Stage paths) = is_ok (stage g s paths)
   writes_log (EndJob job) = is_copy job.note.kind && is_taken_in job
   writes_log CleanOne = true
   writes_log Checkpoint = true
@@ -70,6 +71,7 @@ module _ (g : Layout) (s : SiteState) where
   abbrev pub calls_device : SiteEvent → Bool
   calls_device (FileCall now call) = true
   calls_device (Rank now count) = true
+  calls_device (Stage paths) = true
   calls_device BeginCopy = true
   calls_device (BeginFetch path block) = true
   calls_device event = writes_disk event

@@ -10,19 +10,25 @@ use Rattle.hl_model.specs.Begins.{begin_need}
 use Rattle.hl_media.specs.declared.job.JobNote.{JobNote}
 use Rattle.hl_model.specs.Cache.{AreCleanLines, IsCache, IsOut}
 use Rattle.hl_model.specs.Claims.{Claim, IsNoGreater, MeetsClaim, claim_of}
-use Rattle.hl_model.specs.Cleaning.{AreEmptied, LogUse}
+use Rattle.hl_model.specs.Cleaning.{LogUse}
+use Rattle.hl_model.specs.Closed.{IsClosed, tables_of}
 use Rattle.hl_model.specs.Events.{SiteEvent, Back, EndJob, ends_no_job}
 use Rattle.hl_model.specs.InSlots.{AreInSlots}
 use Rattle.hl_model.specs.Keeping.{AreHeld, BringsBack, Follow, JobsFollow}
 use Rattle.hl_lines.specs.declared.state.LineState.TheVariants.{Empty, Staging}
 use Rattle.hl_lines.specs.Lines.{segment_of}
-use Rattle.hl_model.specs.Mounted.{AreOpeningTables, OpeningTables, mounted}
+use Rattle.hl_script.specs.declared.said.Said.{Said}
+use Rattle.hl_model.specs.LineRuns.{ArePlain, LineRun, TimedLine, files_behind}
+use Rattle.hl_model.specs.Mounted.{AreOpeningTables, IsMounted, OpeningTables, mounted}
 use Rattle.hl_model.specs.Ruled.{told_of}
 use Rattle.hl_model.specs.Rules.{rules}
-use Rattle.hl_model.specs.Runs.{AreReplies, IsSite, Run, Stepped, Writes, plain_run, shelf_after}
+use Rattle.hl_model.specs.Runs.{AreReplies, IsSite, Run, StaysStopped, Stepped, Takes, Writes, plain_run, shelf_after, shelf_behind}
 use Rattle.hl_model.specs.Shelves.{JobOut, KeepsShelf}
 use Rattle.hl_model.specs.Site.{SiteState}
+use Rattle.hl_model.specs.Standing.{IsStanding}
 use Rattle.hl_model.specs.Steps.{SiteStep, State}
+use Rattle.hl_model.specs.Units.{AreEmptied, Middles}
+use Rattle.hl_model.specs.Worlds.{WorldState}
 
 -- WHOLE RUNS
 
@@ -38,10 +44,64 @@ RepliesArePlain = (g : Layout) (shelf : Shelf) (before : State) (steps : List St
     → IsSite shelf before.site → Run g shelf before steps last after
     → AreReplies g (plain shelf before.site.tree) steps
 
--- the state stays one of a site
+-- the state stays one of a site while it runs
 abbrev pub RunsStaySites : Type 0
 RunsStaySites = (g : Layout) (shelf : Shelf) (before : State) (steps : List Stepped) (last : Shelf) (after : State)
-    → IsSite shelf before.site → Run g shelf before steps last after → IsSite last after.site
+    → IsSite shelf before.site → Run g shelf before steps last after
+    → after.site.stopped ≡ None → IsSite last after.site
+
+-- and so it does once a write failed: it stays stopped, with its tree, and the shelf stays
+abbrev pub StoppedSitesStay : Type 0
+StoppedSitesStay = (g : Layout) (shelf : Shelf) (before : State) (steps : List Stepped) (last : Shelf) (after : State)
+    (faults : ℕ) → before.site.stopped ≡ Some faults → Run g shelf before steps last after
+    → StaysStopped faults shelf before last after
+
+-- THE LINES OF A SCRIPT
+
+-- lines are steps of one run
+abbrev pub LinesAreOneRun : Type 0
+LinesAreOneRun = (g : Layout) (w : WorldState) (lines : List TimedLine) (said : List Said) (after : WorldState)
+    → LineRun g w lines said after → (steps : List Stepped) × Run g w.shelf w.state steps after.shelf after.state
+
+-- nothing but the file calls that are replied to changes the files
+abbrev pub LinesLeaveFiles : Type 0
+LinesLeaveFiles = (g : Layout) (w : WorldState) (lines : List TimedLine) (said : List Said) (after : WorldState)
+    → IsSite w.shelf w.state.site → LineRun g w lines said after
+    → plain after.shelf after.state.site.tree ≡ files_behind g (plain w.shelf w.state.site.tree) lines said
+
+-- and each reply is that of plain files
+abbrev pub LinesArePlain : Type 0
+LinesArePlain = (g : Layout) (w : WorldState) (lines : List TimedLine) (said : List Said) (after : WorldState)
+    → IsSite w.shelf w.state.site → LineRun g w lines said after
+    → ArePlain g (plain w.shelf w.state.site.tree) lines said
+
+-- THE INVARIANT
+
+-- a step of a site that goes on running keeps what holds of it
+abbrev pub StepsStand : Type 0
+StepsStand = (g : Layout) (shelf : Shelf) (before : State) (entry : Stepped) (after : State)
+    → IsStanding g shelf before → Takes g shelf before entry after → after.site.stopped ≡ None
+    → IsStanding g
+    (shelf_behind entry.event entry.answer after.site.stopped shelf before.site.next_serial entry.mid.segment) after
+
+-- and so does a run
+abbrev pub RunsStand : Type 0
+RunsStand = (g : Layout) (shelf : Shelf) (before : State) (steps : List Stepped) (last : Shelf) (after : State)
+    → IsStanding g shelf before → Run g shelf before steps last after → after.site.stopped ≡ None
+    → IsStanding g last after
+
+-- it holds of the state that a mount gives, whose files are placed over the shelf
+abbrev pub MountsStand : Type 0
+MountsStand = (g : Layout) (shelf : Shelf) (tree : PlacedTree) (tables : OpeningTables) (counts : List ℕ) (s : State)
+    → AreOpeningTables g tables → length counts ≡ length g.volumes → IsMounted g tree tables counts s
+    → IsSite shelf (mounted g tree tables counts) → AreInSlots (mounted g tree tables counts)
+    → IsStanding g shelf s
+
+-- and of that which a mount gives of what a closing leaves
+abbrev pub ClosedSitesStandAgain : Type 0
+ClosedSitesStandAgain = (g : Layout) (shelf : Shelf) (before after : State) (counts : List ℕ) (again : State)
+    → IsStanding g shelf before → IsClosed before after → length counts ≡ length g.volumes
+    → IsMounted g after.site.tree (tables_of after.site) counts again → IsStanding g shelf again
 
 -- LINES, SLOTS AND JOBS
 
@@ -55,9 +115,9 @@ StagingStays = (g : Layout) (s : SiteState) → AreCleanLines s.lines s.order
 
 -- a step in which no write failed keeps what holds of lines, slots and jobs
 abbrev pub CachesStay : Type 0
-CachesStay = (g : Layout) (shelf : Shelf) (before : State) (event : SiteEvent) (answer : SiteAnswer) (after : State)
+CachesStay = (g : Layout) (shelf : Shelf) (mid : Middles) (before : State) (event : SiteEvent) (answer : SiteAnswer) (after : State)
     → IsCache g before.site → IsAllowed before.site event → before.site.next_serial < 2 ^ 64 - 1
-    → after.site.stopped ≡ None → SiteStep g shelf before event answer after → IsCache g after.site
+    → after.site.stopped ≡ None → SiteStep g shelf mid before event answer after → IsCache g after.site
 
 -- it holds of the site that a mount gives
 abbrev pub MountsGiveCaches : Type 0
@@ -83,14 +143,14 @@ JobsAreNotStale = (g : Layout) (s : SiteState) → IsCache g s
 
 -- in such a step each away block stays in a segment that a slot holds
 abbrev pub AwayBlocksStayInSlots : Type 0
-AwayBlocksStayInSlots = (g : Layout) (shelf : Shelf) (before : State) (event : SiteEvent) (answer : SiteAnswer) (after : State)
+AwayBlocksStayInSlots = (g : Layout) (shelf : Shelf) (mid : Middles) (before : State) (event : SiteEvent) (answer : SiteAnswer) (after : State)
     → IsSite shelf before.site → AreInSlots before.site
-    → after.site.stopped ≡ None → SiteStep g shelf before event answer after → AreInSlots after.site
+    → after.site.stopped ≡ None → SiteStep g shelf mid before event answer after → AreInSlots after.site
 
 -- in such a step the segments that were cleaned since the last checkpoint go on holding no block of the tree
 abbrev pub CleanedStayEmpty : Type 0
-CleanedStayEmpty = (g : Layout) (shelf : Shelf) (before : State) (event : SiteEvent) (answer : SiteAnswer) (after : State)
-    → AreEmptied before.log → after.site.stopped ≡ None → SiteStep g shelf before event answer after
+CleanedStayEmpty = (g : Layout) (shelf : Shelf) (mid : Middles) (before : State) (event : SiteEvent) (answer : SiteAnswer) (after : State)
+    → AreEmptied before.log → after.site.stopped ≡ None → SiteStep g shelf mid before event answer after
     → AreEmptied after.log
 
 -- THE SHELF
@@ -128,10 +188,10 @@ SmallerClaimsAreMet = (k : ℕ) (may : ℕ → List ℕ → Bool) (buffer : List
 
 -- in a step in which no write failed the claim of a job that stays out doesn't grow
 abbrev pub ClaimsDontGrow : Type 0
-ClaimsDontGrow = (g : Layout) (shelf : Shelf) (segment : List ℕ) (before : State) (event : SiteEvent) (answer : SiteAnswer) (after : State)
+ClaimsDontGrow = (g : Layout) (shelf : Shelf) (mid : Middles) (before : State) (event : SiteEvent) (answer : SiteAnswer) (after : State)
     → IsSite shelf before.site → IsCache g before.site → IsAllowed before.site event → before.site.next_serial < 2 ^ 64 - 1
-    → Writes g shelf before.site segment event → after.site.stopped ≡ None → SiteStep g shelf before event answer after
+    → Writes g shelf before.site mid.segment event answer → after.site.stopped ≡ None → SiteStep g shelf mid before event answer after
     → (job : JobNote) → IsOut job before.site.jobs → IsOut job after.site.jobs
     → IsNoGreater
-    (claim_of g after.site (plain (shelf_after shelf before.site.next_serial segment answer) after.site.tree) job)
+    (claim_of g after.site (plain (shelf_after shelf before.site.next_serial mid.segment answer) after.site.tree) job)
     (claim_of g before.site (plain shelf before.site.tree) job)

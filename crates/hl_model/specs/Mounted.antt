@@ -1,5 +1,5 @@
 -- The site that a mount gives, and the shelf that it opens with.
-use Rattle.std.specs.Prelude.{◌≡◌, ℕ, ◌-◌, ◌<◌, ◌≤◌, Bool, List, [], map, length, sum, get_or, position, Option, Some, None}
+use Rattle.std.specs.Prelude.{◌≡◌, ℕ, ◌-◌, ◌<◌, ◌≤◌, Bool, true, false, List, [], map, length, sum, get_or, position, Option, Some, None}
 use Rattle.std.specs.List.{range_with_len}
 use Rattle.std.specs.FinMap.{get}
 use Rattle.hl_addr.specs.Layout.{Layout}
@@ -15,6 +15,7 @@ use Rattle.hl_lines.specs.Lines.{is}
 use Rattle.hl_model.specs.Lines.{count_held, staged_line}
 use Rattle.hl_model.specs.Shelves.{IsHomeSlot}
 use Rattle.hl_model.specs.Site.{SiteState}
+use Rattle.hl_model.specs.Steps.{State}
 
 -- what the tables of an image say: the slots, which volumes are full, and the next tertiary serial
 pub record OpeningTables : Type 0 where
@@ -46,6 +47,15 @@ mounted g tree tables counts = record {
   counts = counts;
   stopped = None;
 }
+
+-- The state that a mount gives, whatever its log holds: no segment was cleaned since the newest record, nothing is dirty, and
+-- no pass was left.
+pub record IsMounted (g : Layout) (tree : PlacedTree) (tables : OpeningTables) (counts : List ℕ) (s : State) : Type 0 where
+  pub site : s.site ≡ mounted g tree tables counts
+  pub cleaned : s.log.cleaned ≡ []
+  pub dirty : s.log.dirty ≡ 0
+  pub tidy : s.log.tidy ≡ true
+  pub ran : s.log.left ≡ false
 
 -- Tables that a site can be mounted from: a slot for each number and a mark for each volume, staged slots with lines that
 -- are there, no two with one line, at most C - 12; no two slots with one serial, and each below the next one.

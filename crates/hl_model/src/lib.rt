@@ -3,10 +3,12 @@
 
 ghost use Rattle.hl_model.specs.Laws.{AwayBlocksStayInSlots, CachesStay, ClaimsAreNoGreater};
 ghost use Rattle.hl_model.specs.Laws.{ClaimsAreOrdered, ClaimsDontGrow, CleanedStayEmpty};
-ghost use Rattle.hl_model.specs.Laws.{FetchesFindLines};
-ghost use Rattle.hl_model.specs.Laws.{JobsAreNotStale, MountsGiveCaches, RepliesArePlain};
-ghost use Rattle.hl_model.specs.Laws.{RunsArePlain, RunsStaySites, SegmentsHaveOneLine};
+ghost use Rattle.hl_model.specs.Laws.{ClosedSitesStandAgain, FetchesFindLines};
+ghost use Rattle.hl_model.specs.Laws.{JobsAreNotStale, MountsGiveCaches, MountsStand, RepliesArePlain};
+ghost use Rattle.hl_model.specs.Laws.{LinesAreOneRun, LinesArePlain, LinesLeaveFiles};
+ghost use Rattle.hl_model.specs.Laws.{RunsArePlain, RunsStand, RunsStaySites, SegmentsHaveOneLine};
 ghost use Rattle.hl_model.specs.Laws.{ShelvesStayKept, SmallerClaimsAreMet, StagingStays};
+ghost use Rattle.hl_model.specs.Laws.{StepsStand, StoppedSitesStay};
 
 /// However file calls, stagings, transfers, ejections and cleanings follow one another, each reply is
 /// that of plain files, nothing but the file calls changes the plain tree, and the state stays one of
@@ -15,6 +17,24 @@ pub fn runs_are_plain()
     ensures plain { RunsArePlain }
     ensures replies { RepliesArePlain }
     ensures site { RunsStaySites }
+    ensures stopped { StoppedSitesStay }
+{}
+
+/// The lines of a script, with all that serves a call, are one run of steps: nothing but the file calls
+/// that are replied to changes the files, and each reply is that of plain files.
+pub fn lines_are_plain()
+    ensures steps { LinesAreOneRun }
+    ensures files { LinesLeaveFiles }
+    ensures replies { LinesArePlain }
+{}
+
+/// What holds of a site between steps holds of the state that a mount gives, each step and each run keep
+/// it while no write fails, and a mount of what a closing leaves gives it again.
+pub fn sites_stand()
+    ensures mounted { MountsStand }
+    ensures kept { StepsStand }
+    ensures run { RunsStand }
+    ensures again { ClosedSitesStandAgain }
 {}
 
 /// No event but the end of a job takes a line out of staging.
