@@ -15,7 +15,7 @@ use hl_bytes::{BLOCK, is_zero};
 use hl_dir::{Entry, decode};
 use hl_media::{Failed, Machine};
 use hl_nodes::{Rule, is_in_log};
-use hl_survey::{FoundInode, SurveyStop};
+use hl_survey::{CheckError, FoundInode};
 use hl_tree::List;
 use std::alloc::{AllocError, Global};
 
@@ -61,7 +61,7 @@ fn put_behind(bytes: &mut Vec<u8>, block: &[u8]) -> Result<(), AllocError>
 }
 
 /// Reads a block, and puts it behind some bytes.
-fn append_block<M: Machine>(machine: &mut M, at: u32, bytes: &mut Vec<u8>) -> Result<(), SurveyStop>
+fn append_block<M: Machine>(machine: &mut M, at: u32, bytes: &mut Vec<u8>) -> Result<(), CheckError>
     requires { at < M.blocks machine.old }
     ensures bytes { OnOk result (Now (M.history machine.old)
         (λ s. bytes.new.items ≡ bytes.old.items ++ s.content at)) }
@@ -85,7 +85,7 @@ fn read_blocks<M: Machine>(
     machine: &mut M,
     geometry: &Geometry,
     pointers: &[u32],
-) -> Result<Vec<u8>, SurveyStop>
+) -> Result<Vec<u8>, CheckError>
     requires room { site_blocks geometry.now ≤ M.blocks machine.old }
     requires pointers { AreInLog geometry.now pointers.now }
     ensures blocks { IfOk result (λ bytes. Now (M.history machine.old)
@@ -118,10 +118,10 @@ fn entries_in(alloc: Global, bytes: &[u8], size: u64) -> Result<Option<List<Entr
 }
 
 /// What stops a look at a directory whose bytes are none.
-fn off_bytes(dir: &FoundInode) -> SurveyStop
-    ensures { result ≡ SurveyStop.Damaged dir.now.address Rule.DirectoryBytes }
+fn off_bytes(dir: &FoundInode) -> CheckError
+    ensures { result ≡ CheckError.Damaged dir.now.address Rule.DirectoryBytes }
 {
-    SurveyStop::Damaged {
+    CheckError::Damaged {
         block: dir.address,
         rule: Rule::DirectoryBytes,
     }
@@ -133,7 +133,7 @@ pub(crate) fn read_entries<M: Machine>(
     machine: &mut M,
     geometry: &Geometry,
     dir: &FoundInode,
-) -> Result<List<Entry>, SurveyStop>
+) -> Result<List<Entry>, CheckError>
     requires room { site_blocks geometry.now ≤ M.blocks machine.old }
     ensures entries { IfOk result (λ es. Now (M.history machine.old)
         (λ s. AreOf s.content dir.now.inode dir.now.pointers.items

@@ -15,7 +15,7 @@ use crate::reach::lost_number;
 use hl_addr::{Geometry, NOTHING};
 use hl_media::Machine;
 use hl_nodes::Rule;
-use hl_survey::{FoundInode, SurveyStop};
+use hl_survey::{CheckError, FoundInode};
 use std::alloc::Global;
 
 /// The block of the inode of a number.
@@ -38,7 +38,7 @@ pub fn check_hierarchy<M: Machine>(
     machine: &mut M,
     geometry: &Geometry,
     found: &[Option<FoundInode>],
-) -> Result<(), SurveyStop>
+) -> Result<(), CheckError>
     requires room { site_blocks geometry.now ≤ M.blocks machine.old }
     requires size { length found.now ≡ geometry.now.inodes }
     ensures kept { OnOk result (Now (M.history machine.old)
@@ -54,7 +54,7 @@ pub fn check_hierarchy<M: Machine>(
     let parents = name_numbers(alloc, machine, geometry, found)?;
     match lost_number(alloc, found, parents.as_slice())? {
         None => Ok(()),
-        Some(ino) => Err(SurveyStop::Damaged {
+        Some(ino) => Err(CheckError::Damaged {
             block: inode_block(found, ino),
             rule: Rule::LostInode,
         }),

@@ -22,7 +22,7 @@ use hl_addr::Geometry;
 use hl_bytes::SegBuf;
 use hl_media::{Failed, Machine};
 use hl_nodes::Rule;
-use hl_survey::SurveyStop;
+use hl_survey::CheckError;
 use hl_tables::Tables;
 use hl_tseg::Slot;
 use hl_view::LineView;
@@ -126,7 +126,7 @@ pub fn check_lines<M: Machine>(
     machine: &mut M,
     geometry: &Geometry,
     tables: &Tables,
-) -> Result<(), SurveyStop>
+) -> Result<(), CheckError>
     requires room { site_blocks geometry.now ≤ M.blocks machine.old }
     requires lines { HaveLines geometry.now tables.now.slots }
     ensures kept { OnOk result (Now (M.history machine.old)
@@ -142,7 +142,7 @@ pub fn check_lines<M: Machine>(
     let slots = tables.slots().items();
     'slots: for i in 0..slots.len() {
         if let Some(block) = off_line(machine, geometry, slots[i], &mut buffer)? {
-            return Err(SurveyStop::Damaged {
+            return Err(CheckError::Damaged {
                 block,
                 rule: Rule::LineBytes,
             });

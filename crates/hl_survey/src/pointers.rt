@@ -13,7 +13,7 @@ ghost use Rattle.hl_survey.specs.Surveys.{ArePointers, IsPointer};
 ghost use Rattle.hl_survey.specs.Pointing.{HasBlock, HasPointers, HoldsBlock, IsOffBlock, NamesOwnBlocks, SpellsPointers, number_at};
 ghost use Rattle.hl_survey.specs.Stops.{BreaksPointers, Stops, StopsBy};
 
-use crate::found::SurveyStop;
+use crate::check_error::CheckError;
 use crate::reading::read_block;
 use hl_addr::{Geometry, NOTHING, Place};
 use hl_bytes::BLOCK;
@@ -152,7 +152,7 @@ fn read_pointer_block<M: Machine>(
     own: u32,
     inode: &Inode,
     out: &mut [u8],
-) -> Result<(), SurveyStop>
+) -> Result<(), CheckError>
     requires size { length out.old ≡ 4096 }
     requires room { site_blocks geometry.now ≤ M.blocks machine.old }
     ensures block { OnOk result (Now (M.history machine.old)
@@ -170,7 +170,7 @@ fn read_pointer_block<M: Machine>(
         return Ok(());
     }
     if !is_in_log(geometry, inode.single) {
-        return Err(SurveyStop::Damaged {
+        return Err(CheckError::Damaged {
             block: own,
             rule: Rule::PointerPlace,
         });
@@ -179,7 +179,7 @@ fn read_pointer_block<M: Machine>(
     if names_own_blocks(inode.size, out) {
         Ok(())
     } else {
-        Err(SurveyStop::Damaged {
+        Err(CheckError::Damaged {
             block: inode.single,
             rule: Rule::PointerBlock,
         })
@@ -194,7 +194,7 @@ pub(crate) fn read_pointers<M: Machine>(
     tables: &Tables,
     own: u32,
     inode: &Inode,
-) -> Result<Vec<u32>, SurveyStop>
+) -> Result<Vec<u32>, CheckError>
     requires room { site_blocks geometry.now ≤ M.blocks machine.old }
     requires slots { tables.now.slots.volumes ≡ geometry.now.volumes }
     requires size { inode.now.size ≤ 4243456 }
@@ -211,7 +211,7 @@ pub(crate) fn read_pointers<M: Machine>(
     read_pointer_block(machine, geometry, own, inode, &mut block)?;
     match pointers_of(alloc, geometry, tables, inode, &block)? {
         Some(pointers) => Ok(pointers),
-        None => Err(SurveyStop::Damaged {
+        None => Err(CheckError::Damaged {
             block: own,
             rule: Rule::PointerPlace,
         }),

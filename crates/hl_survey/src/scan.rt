@@ -10,8 +10,9 @@ ghost use Rattle.hl_tables.specs.Values.{AreTables};
 ghost use Rattle.hl_survey.specs.Surveys.{AreSurveyed, IsFound, IsFoundInode};
 ghost use Rattle.hl_survey.specs.Stops.{IsBroken, Stops, StopsBy};
 
+use crate::check_error::CheckError;
 use crate::entries::{is_off_entry, map_block};
-use crate::found::{FoundInode, SurveyStop};
+use crate::found::FoundInode;
 use crate::inodes::read_inode;
 use crate::pointers::read_pointers;
 use hl_addr::{Geometry, NOTHING};
@@ -28,7 +29,7 @@ fn survey_inode<M: Machine>(
     geometry: &Geometry,
     tables: &Tables,
     ino: u32,
-) -> Result<FoundInode, SurveyStop>
+) -> Result<FoundInode, CheckError>
     requires room { site_blocks geometry.now ≤ M.blocks machine.old }
     requires tables { AreTables geometry.now tables.now }
     requires low { 1 ≤ ino }
@@ -63,7 +64,7 @@ fn survey_number<M: Machine>(
     rec: &Record,
     tables: &Tables,
     ino: u32,
-) -> Result<Option<FoundInode>, SurveyStop>
+) -> Result<Option<FoundInode>, CheckError>
     requires room { site_blocks geometry.now ≤ M.blocks machine.old }
     requires blocks { length rec.now.tables ≡ table_blocks geometry.now }
     requires tables { AreTables geometry.now tables.now }
@@ -79,7 +80,7 @@ fn survey_number<M: Machine>(
 {
     let address = tables.inode(ino);
     if is_off_entry(geometry, ino, address) {
-        return Err(SurveyStop::Damaged {
+        return Err(CheckError::Damaged {
             block: map_block(geometry, rec, ino),
             rule: Rule::MapEntry,
         });
@@ -100,7 +101,7 @@ pub fn survey<M: Machine>(
     geometry: &Geometry,
     rec: &Record,
     tables: &Tables,
-) -> Result<Vec<Option<FoundInode>>, SurveyStop>
+) -> Result<Vec<Option<FoundInode>>, CheckError>
     requires room { site_blocks geometry.now ≤ M.blocks machine.old }
     requires blocks { length rec.now.tables ≡ table_blocks geometry.now }
     requires tables { AreTables geometry.now tables.now }
