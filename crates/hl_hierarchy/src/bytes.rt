@@ -66,8 +66,7 @@ fn append_block<M: Machine>(machine: &mut M, at: u32, bytes: &mut Vec<u8>) -> Re
     ensures bytes { OnOk result (Now (M.history machine.old)
         (λ s. bytes.new.items ≡ bytes.old.items ++ s.content at)) }
     ensures size { OnOk result (length bytes.new.items ≡ length bytes.old.items + 4096) }
-    ensures stops { IfErr result (Stops M.history M.faults (λ image rule block. ⊥)
-        machine.old machine.new) }
+    ensures stops { IfErr result (Stops (M.history machine.old) (λ image rule block. ⊥)) }
     ensures machine { OnlyReads M.history M.blocks M.faults M.write_faults M.say_faults
         machine.old machine.new }
     ensures fault { MatchResult result (λ _. M.faults machine.new ≡ M.faults machine.old)
@@ -91,8 +90,7 @@ fn read_blocks<M: Machine>(
     ensures blocks { IfOk result (λ bytes. Now (M.history machine.old)
         (λ s. AreBlocks s.content pointers.now bytes.items)) }
     ensures size { IfOk result (λ bytes. length bytes.items ≡ 4096 * length pointers.now) }
-    ensures stops { IfErr result (Stops M.history M.faults (λ image rule block. ⊥)
-        machine.old machine.new) }
+    ensures stops { IfErr result (Stops (M.history machine.old) (λ image rule block. ⊥)) }
     ensures machine { OnlyReads M.history M.blocks M.faults M.write_faults M.say_faults
         machine.old machine.new }
     ensures fault { MatchResult result (λ _. M.faults machine.new ≡ M.faults machine.old)
@@ -138,8 +136,8 @@ pub(crate) fn read_entries<M: Machine>(
     ensures entries { IfOk result (λ es. Now (M.history machine.old)
         (λ s. AreOf s.content dir.now.inode dir.now.pointers.items
         → HoldsEntries geometry.now s.content dir.now.inode es)) }
-    ensures stops { IfErr result (Stops M.history M.faults (BreaksDirectory geometry.now dir.now)
-        machine.old machine.new) }
+    ensures stops { IfErr result (Stops (M.history machine.old)
+        (BreaksDirectory geometry.now dir.now)) }
     ensures machine { OnlyReads M.history M.blocks M.faults M.write_faults M.say_faults
         machine.old machine.new }
     ensures fault { MatchResult result (λ _. M.faults machine.new ≡ M.faults machine.old)

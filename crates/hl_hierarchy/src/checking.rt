@@ -44,8 +44,8 @@ pub fn check_hierarchy<M: Machine>(
     ensures kept { OnOk result (Now (M.history machine.old)
         (λ s. (t : TableValues) → AreSurveyed geometry.now s.content t found.now
         → KeepsHierarchy geometry.now s.content t)) }
-    ensures stops { IfErr result (Stops M.history M.faults (BreaksSurveyed geometry.now found.now)
-        machine.old machine.new) }
+    ensures stops { IfErr result (Stops (M.history machine.old)
+        (BreaksSurveyed geometry.now found.now)) }
     ensures machine { OnlyReads M.history M.blocks M.faults M.write_faults M.say_faults
         machine.old machine.new }
     ensures fault { MatchResult result (λ _. M.faults machine.new ≡ M.faults machine.old)

@@ -38,8 +38,8 @@ fn name_directory<M: Machine>(
     ensures names { OnOk result (Now (M.history machine.old)
         (λ s. GoesOn geometry.now s.content found.now parents.old parents.new ino)) }
     ensures below { EachBelow parents.old ino → OnOk result (EachBelow parents.new (ino + 1)) }
-    ensures stops { IfErr result (Stops M.history M.faults
-        (BreaksNaming geometry.now found.now parents.old ino) machine.old machine.new) }
+    ensures stops { IfErr result (Stops (M.history machine.old)
+        (BreaksNaming geometry.now found.now parents.old ino)) }
     ensures machine { OnlyReads M.history M.blocks M.faults M.write_faults M.say_faults
         machine.old machine.new }
     ensures fault { MatchResult result (λ _. M.faults machine.new ≡ M.faults machine.old)
@@ -72,8 +72,8 @@ fn name_number<M: Machine>(
     ensures names { OnOk result (Now (M.history machine.old)
         (λ s. GoesOn geometry.now s.content found.now parents.old parents.new ino)) }
     ensures below { EachBelow parents.old ino → OnOk result (EachBelow parents.new (ino + 1)) }
-    ensures stops { IfErr result (Stops M.history M.faults
-        (BreaksNaming geometry.now found.now parents.old ino) machine.old machine.new) }
+    ensures stops { IfErr result (Stops (M.history machine.old)
+        (BreaksNaming geometry.now found.now parents.old ino)) }
     ensures machine { OnlyReads M.history M.blocks M.faults M.write_faults M.say_faults
         machine.old machine.new }
     ensures fault { MatchResult result (λ _. M.faults machine.new ≡ M.faults machine.old)
@@ -105,8 +105,8 @@ fn name_all<M: Machine>(
         → AreNamed geometry.now s.content found.now parents.new)) }
     ensures below { OnOk result (EachBelow parents.new (length found.now)) }
     ensures limits { OnOk result (IsWithinLimits geometry.now) }
-    ensures stops { IfErr result (Stops M.history M.faults (BreaksSurveyed geometry.now found.now)
-        machine.old machine.new) }
+    ensures stops { IfErr result (Stops (M.history machine.old)
+        (BreaksSurveyed geometry.now found.now)) }
     ensures machine { OnlyReads M.history M.blocks M.faults M.write_faults M.say_faults
         machine.old machine.new }
     ensures fault { MatchResult result (λ _. M.faults machine.new ≡ M.faults machine.old)
@@ -133,8 +133,8 @@ pub(crate) fn name_numbers<M: Machine>(
     ensures size { IfOk result (λ parents. length parents.items ≡ length found.now) }
     ensures below { IfOk result (λ parents. EachBelow parents.items (length found.now)) }
     ensures limits { OnOk result (IsWithinLimits geometry.now) }
-    ensures stops { IfErr result (Stops M.history M.faults (BreaksSurveyed geometry.now found.now)
-        machine.old machine.new) }
+    ensures stops { IfErr result (Stops (M.history machine.old)
+        (BreaksSurveyed geometry.now found.now)) }
     ensures machine { OnlyReads M.history M.blocks M.faults M.write_faults M.say_faults
         machine.old machine.new }
     ensures fault { MatchResult result (λ _. M.faults machine.new ≡ M.faults machine.old)

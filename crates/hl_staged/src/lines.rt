@@ -131,8 +131,8 @@ pub fn check_lines<M: Machine>(
     requires lines { HaveLines geometry.now tables.now.slots }
     ensures kept { OnOk result (Now (M.history machine.old)
         (λ s. KeepsRule geometry.now tables.now LineBytes s.content)) }
-    ensures stops { IfErr result (Stops M.history M.faults
-        (BreaksTried geometry.now tables.now LineBytes) machine.old machine.new) }
+    ensures stops { IfErr result (Stops (M.history machine.old)
+        (BreaksTried geometry.now tables.now LineBytes)) }
     ensures machine { OnlyReads M.history M.blocks M.faults M.write_faults M.say_faults
         machine.old machine.new }
     ensures fault { MatchResult result (λ _. M.faults machine.new ≡ M.faults machine.old)

@@ -48,7 +48,7 @@ pub(crate) fn read_inode<M: Machine>(
         Now (M.history machine.old) (λ s. IsInodeOf ino (s.content own) v)) }
     ensures is { IfOk result IsInode }
     ensures stops { IfErr result
-        (Stops M.history M.faults (BreaksInode ino own) machine.old machine.new) }
+        (Stops (M.history machine.old) (BreaksInode ino own)) }
     ensures machine { OnlyReads M.history M.blocks M.faults M.write_faults M.say_faults
         machine.old machine.new }
     ensures fault { MatchResult result (λ _. M.faults machine.new ≡ M.faults machine.old)

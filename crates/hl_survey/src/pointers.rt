@@ -158,9 +158,8 @@ fn read_pointer_block<M: Machine>(
     ensures block { OnOk result (Now (M.history machine.old)
         (λ s. SpellsPointers geometry.now s.content inode.now out.new)) }
     ensures size { length out.new ≡ 4096 }
-    ensures stops { IfErr result (Stops M.history M.faults (λ image rule block.
-        (t : TableValues) → BreaksPointers geometry.now t own inode.now image rule block)
-        machine.old machine.new) }
+    ensures stops { IfErr result (Stops (M.history machine.old) (λ image rule block.
+        (t : TableValues) → BreaksPointers geometry.now t own inode.now image rule block)) }
     ensures machine { OnlyReads M.history M.blocks M.faults M.write_faults M.say_faults
         machine.old machine.new }
     ensures fault { MatchResult result (λ _. M.faults machine.new ≡ M.faults machine.old)
@@ -200,8 +199,8 @@ pub(crate) fn read_pointers<M: Machine>(
     requires size { inode.now.size ≤ 4243456 }
     ensures pointers { IfOk result (λ r. Now (M.history machine.old)
         (λ s. HasPointers geometry.now tables.now.slots s.content inode.now r.items)) }
-    ensures stops { IfErr result (Stops M.history M.faults
-        (BreaksPointers geometry.now tables.now own inode.now) machine.old machine.new) }
+    ensures stops { IfErr result (Stops (M.history machine.old)
+        (BreaksPointers geometry.now tables.now own inode.now)) }
     ensures machine { OnlyReads M.history M.blocks M.faults M.write_faults M.say_faults
         machine.old machine.new }
     ensures fault { MatchResult result (λ _. M.faults machine.new ≡ M.faults machine.old)

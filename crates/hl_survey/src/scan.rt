@@ -38,9 +38,8 @@ fn survey_inode<M: Machine>(
     requires within { slice_index tables.now.inodes ino < log_end geometry.now }
     ensures found { IfOk result (λ found. Now (M.history machine.old)
         (λ s. IsFoundInode geometry.now s.content tables.now ino found)) }
-    ensures stops { IfErr result (Stops M.history M.faults (λ image rule block.
-        (rec : Record) → IsBroken geometry.now rec tables.now image rule block)
-        machine.old machine.new) }
+    ensures stops { IfErr result (Stops (M.history machine.old) (λ image rule block.
+        (rec : Record) → IsBroken geometry.now rec tables.now image rule block)) }
     ensures machine { OnlyReads M.history M.blocks M.faults M.write_faults M.say_faults
         machine.old machine.new }
     ensures fault { MatchResult result (λ _. M.faults machine.new ≡ M.faults machine.old)
@@ -71,8 +70,8 @@ fn survey_number<M: Machine>(
     requires number { ino < geometry.now.inodes }
     ensures found { IfOk result (λ found. Now (M.history machine.old)
         (λ s. IsFound geometry.now s.content tables.now ino found)) }
-    ensures stops { IfErr result (Stops M.history M.faults
-        (IsBroken geometry.now rec.now tables.now) machine.old machine.new) }
+    ensures stops { IfErr result (Stops (M.history machine.old)
+        (IsBroken geometry.now rec.now tables.now)) }
     ensures machine { OnlyReads M.history M.blocks M.faults M.write_faults M.say_faults
         machine.old machine.new }
     ensures fault { MatchResult result (λ _. M.faults machine.new ≡ M.faults machine.old)
@@ -110,8 +109,8 @@ pub fn survey<M: Machine>(
 
     // So many are found even on a machine that tells nothing.
     ensures count { IfOk result (λ found. length found.items ≡ geometry.now.inodes) }
-    ensures stops { IfErr result (Stops M.history M.faults
-        (IsBroken geometry.now rec.now tables.now) machine.old machine.new) }
+    ensures stops { IfErr result (Stops (M.history machine.old)
+        (IsBroken geometry.now rec.now tables.now)) }
     ensures machine { OnlyReads M.history M.blocks M.faults M.write_faults M.say_faults
         machine.old machine.new }
     ensures fault { MatchResult result (λ _. M.faults machine.new ≡ M.faults machine.old)
