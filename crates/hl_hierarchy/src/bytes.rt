@@ -15,7 +15,7 @@ use hl_bytes::{BLOCK, is_zero};
 use hl_dir::{Entry, decode};
 use hl_media::{Failed, Machine};
 use hl_nodes::{Rule, is_in_log};
-use hl_survey::{FoundInode, SurveyStop};
+use hl_survey::{CheckError, FoundInode};
 use hl_tree::List;
 use std::alloc::{AllocError, Global};
 
@@ -61,13 +61,12 @@ fn put_behind(bytes: &mut Vec<u8>, block: &[u8]) -> Result<(), AllocError>
 }
 
 /// Reads a block, and puts it behind some bytes.
-fn append_block<M: Machine>(machine: &mut M, at: u32, bytes: &mut Vec<u8>) -> Result<(), SurveyStop>
+fn append_block<M: Machine>(machine: &mut M, at: u32, bytes: &mut Vec<u8>) -> Result<(), CheckError>
     requires { at < M.blocks machine.old }
     ensures bytes { OnOk result (Now (M.history machine.old)
         (λ s. bytes.new.items ≡ bytes.old.items ++ s.content at)) }
     ensures size { OnOk result (length bytes.new.items ≡ length bytes.old.items + 4096) }
-    ensures stops { IfErr result (Stops M.history M.faults (λ image rule block. ⊥)
-        machine.old machine.new) }
+    ensures stops { IfErr result (Stops (M.history machine.old) (λ image rule block. ⊥)) }
     ensures machine { OnlyReads M.history M.blocks M.faults M.write_faults M.say_faults
         machine.old machine.new }
     ensures fault { MatchResult result (λ _. M.faults machine.new ≡ M.faults machine.old)
@@ -85,14 +84,13 @@ fn read_blocks<M: Machine>(
     machine: &mut M,
     geometry: &Geometry,
     pointers: &[u32],
-) -> Result<Vec<u8>, SurveyStop>
+) -> Result<Vec<u8>, CheckError>
     requires room { site_blocks geometry.now ≤ M.blocks machine.old }
     requires pointers { AreInLog geometry.now pointers.now }
     ensures blocks { IfOk result (λ bytes. Now (M.history machine.old)
         (λ s. AreBlocks s.content pointers.now bytes.items)) }
     ensures size { IfOk result (λ bytes. length bytes.items ≡ 4096 * length pointers.now) }
-    ensures stops { IfErr result (Stops M.history M.faults (λ image rule block. ⊥)
-        machine.old machine.new) }
+    ensures stops { IfErr result (Stops (M.history machine.old) (λ image rule block. ⊥)) }
     ensures machine { OnlyReads M.history M.blocks M.faults M.write_faults M.say_faults
         machine.old machine.new }
     ensures fault { MatchResult result (λ _. M.faults machine.new ≡ M.faults machine.old)
@@ -118,10 +116,10 @@ fn entries_in(alloc: Global, bytes: &[u8], size: u64) -> Result<Option<List<Entr
 }
 
 /// What stops a look at a directory whose bytes are none.
-fn off_bytes(dir: &FoundInode) -> SurveyStop
-    ensures { result ≡ SurveyStop.Damaged dir.now.address Rule.DirectoryBytes }
+fn off_bytes(dir: &FoundInode) -> CheckError
+    ensures { result ≡ CheckError.Damaged dir.now.address Rule.DirectoryBytes }
 {
-    SurveyStop::Damaged {
+    CheckError::Damaged {
         block: dir.address,
         rule: Rule::DirectoryBytes,
     }
@@ -133,13 +131,13 @@ pub(crate) fn read_entries<M: Machine>(
     machine: &mut M,
     geometry: &Geometry,
     dir: &FoundInode,
-) -> Result<List<Entry>, SurveyStop>
+) -> Result<List<Entry>, CheckError>
     requires room { site_blocks geometry.now ≤ M.blocks machine.old }
     ensures entries { IfOk result (λ es. Now (M.history machine.old)
         (λ s. AreOf s.content dir.now.inode dir.now.pointers.items
         → HoldsEntries geometry.now s.content dir.now.inode es)) }
-    ensures stops { IfErr result (Stops M.history M.faults (BreaksDirectory geometry.now dir.now)
-        machine.old machine.new) }
+    ensures stops { IfErr result (Stops (M.history machine.old)
+        (BreaksDirectory geometry.now dir.now)) }
     ensures machine { OnlyReads M.history M.blocks M.faults M.write_faults M.say_faults
         machine.old machine.new }
     ensures fault { MatchResult result (λ _. M.faults machine.new ≡ M.faults machine.old)

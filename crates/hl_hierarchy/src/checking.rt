@@ -15,7 +15,7 @@ use crate::reach::lost_number;
 use hl_addr::{Geometry, NOTHING};
 use hl_media::Machine;
 use hl_nodes::Rule;
-use hl_survey::{FoundInode, SurveyStop};
+use hl_survey::{CheckError, FoundInode};
 use std::alloc::Global;
 
 /// The block of the inode of a number.
@@ -38,14 +38,14 @@ pub fn check_hierarchy<M: Machine>(
     machine: &mut M,
     geometry: &Geometry,
     found: &[Option<FoundInode>],
-) -> Result<(), SurveyStop>
+) -> Result<(), CheckError>
     requires room { site_blocks geometry.now ≤ M.blocks machine.old }
     requires size { length found.now ≡ geometry.now.inodes }
     ensures kept { OnOk result (Now (M.history machine.old)
         (λ s. (t : TableValues) → AreSurveyed geometry.now s.content t found.now
         → KeepsHierarchy geometry.now s.content t)) }
-    ensures stops { IfErr result (Stops M.history M.faults (BreaksSurveyed geometry.now found.now)
-        machine.old machine.new) }
+    ensures stops { IfErr result (Stops (M.history machine.old)
+        (BreaksSurveyed geometry.now found.now)) }
     ensures machine { OnlyReads M.history M.blocks M.faults M.write_faults M.say_faults
         machine.old machine.new }
     ensures fault { MatchResult result (λ _. M.faults machine.new ≡ M.faults machine.old)
@@ -54,7 +54,7 @@ pub fn check_hierarchy<M: Machine>(
     let parents = name_numbers(alloc, machine, geometry, found)?;
     match lost_number(alloc, found, parents.as_slice())? {
         None => Ok(()),
-        Some(ino) => Err(SurveyStop::Damaged {
+        Some(ino) => Err(CheckError::Damaged {
             block: inode_block(found, ino),
             rule: Rule::LostInode,
         }),

@@ -16,7 +16,7 @@ use hl_addr::Geometry;
 use hl_inode::Kind;
 use hl_media::Machine;
 use hl_nodes::Rule;
-use hl_survey::{FoundInode, SurveyStop};
+use hl_survey::{CheckError, FoundInode};
 use std::alloc::Global;
 
 /// Reads the directory of a number, and notes it for each number that its entries name.
@@ -28,7 +28,7 @@ fn name_directory<M: Machine>(
     parents: &mut [u32],
     ino: u32,
     dir: &FoundInode,
-) -> Result<(), SurveyStop>
+) -> Result<(), CheckError>
     requires room { site_blocks geometry.now ≤ M.blocks machine.old }
     requires size { length parents.old ≡ length found.now }
     requires low { 1 ≤ ino }
@@ -38,8 +38,8 @@ fn name_directory<M: Machine>(
     ensures names { OnOk result (Now (M.history machine.old)
         (λ s. GoesOn geometry.now s.content found.now parents.old parents.new ino)) }
     ensures below { EachBelow parents.old ino → OnOk result (EachBelow parents.new (ino + 1)) }
-    ensures stops { IfErr result (Stops M.history M.faults
-        (BreaksNaming geometry.now found.now parents.old ino) machine.old machine.new) }
+    ensures stops { IfErr result (Stops (M.history machine.old)
+        (BreaksNaming geometry.now found.now parents.old ino)) }
     ensures machine { OnlyReads M.history M.blocks M.faults M.write_faults M.say_faults
         machine.old machine.new }
     ensures fault { MatchResult result (λ _. M.faults machine.new ≡ M.faults machine.old)
@@ -49,7 +49,7 @@ fn name_directory<M: Machine>(
     if note_entries(found, parents, ino, entries.items()) {
         Ok(())
     } else {
-        Err(SurveyStop::Damaged {
+        Err(CheckError::Damaged {
             block: dir.address,
             rule: Rule::DirectoryEntry,
         })
@@ -64,7 +64,7 @@ fn name_number<M: Machine>(
     found: &[Option<FoundInode>],
     parents: &mut [u32],
     ino: u32,
-) -> Result<(), SurveyStop>
+) -> Result<(), CheckError>
     requires room { site_blocks geometry.now ≤ M.blocks machine.old }
     requires size { length parents.old ≡ length found.now }
     requires low { 1 ≤ ino }
@@ -72,8 +72,8 @@ fn name_number<M: Machine>(
     ensures names { OnOk result (Now (M.history machine.old)
         (λ s. GoesOn geometry.now s.content found.now parents.old parents.new ino)) }
     ensures below { EachBelow parents.old ino → OnOk result (EachBelow parents.new (ino + 1)) }
-    ensures stops { IfErr result (Stops M.history M.faults
-        (BreaksNaming geometry.now found.now parents.old ino) machine.old machine.new) }
+    ensures stops { IfErr result (Stops (M.history machine.old)
+        (BreaksNaming geometry.now found.now parents.old ino)) }
     ensures machine { OnlyReads M.history M.blocks M.faults M.write_faults M.say_faults
         machine.old machine.new }
     ensures fault { MatchResult result (λ _. M.faults machine.new ≡ M.faults machine.old)
@@ -95,7 +95,7 @@ fn name_all<M: Machine>(
     geometry: &Geometry,
     found: &[Option<FoundInode>],
     parents: &mut [u32],
-) -> Result<(), SurveyStop>
+) -> Result<(), CheckError>
     requires room { site_blocks geometry.now ≤ M.blocks machine.old }
     requires size { length found.now ≡ geometry.now.inodes }
     requires parents { length parents.old ≡ length found.now }
@@ -105,8 +105,8 @@ fn name_all<M: Machine>(
         → AreNamed geometry.now s.content found.now parents.new)) }
     ensures below { OnOk result (EachBelow parents.new (length found.now)) }
     ensures limits { OnOk result (IsWithinLimits geometry.now) }
-    ensures stops { IfErr result (Stops M.history M.faults (BreaksSurveyed geometry.now found.now)
-        machine.old machine.new) }
+    ensures stops { IfErr result (Stops (M.history machine.old)
+        (BreaksSurveyed geometry.now found.now)) }
     ensures machine { OnlyReads M.history M.blocks M.faults M.write_faults M.say_faults
         machine.old machine.new }
     ensures fault { MatchResult result (λ _. M.faults machine.new ≡ M.faults machine.old)
@@ -124,7 +124,7 @@ pub(crate) fn name_numbers<M: Machine>(
     machine: &mut M,
     geometry: &Geometry,
     found: &[Option<FoundInode>],
-) -> Result<Vec<u32>, SurveyStop>
+) -> Result<Vec<u32>, CheckError>
     requires room { site_blocks geometry.now ≤ M.blocks machine.old }
     requires size { length found.now ≡ geometry.now.inodes }
     ensures names { IfOk result (λ parents. Now (M.history machine.old)
@@ -133,8 +133,8 @@ pub(crate) fn name_numbers<M: Machine>(
     ensures size { IfOk result (λ parents. length parents.items ≡ length found.now) }
     ensures below { IfOk result (λ parents. EachBelow parents.items (length found.now)) }
     ensures limits { OnOk result (IsWithinLimits geometry.now) }
-    ensures stops { IfErr result (Stops M.history M.faults (BreaksSurveyed geometry.now found.now)
-        machine.old machine.new) }
+    ensures stops { IfErr result (Stops (M.history machine.old)
+        (BreaksSurveyed geometry.now found.now)) }
     ensures machine { OnlyReads M.history M.blocks M.faults M.write_faults M.say_faults
         machine.old machine.new }
     ensures fault { MatchResult result (λ _. M.faults machine.new ≡ M.faults machine.old)

@@ -1,5 +1,5 @@
 -- Tables that are read from the blocks that a record names.
-use Rattle.std.proofs.Common.{◌≡◌, inl, inr, ⊎_elim, ℕ, ◌<◌, ◌≤◌, List, refl, sym, ◌∙◌, subst, arith, lit≤}
+use Rattle.std.proofs.Common.{◌≡◌, inl, inr, ⊎_elim, ℕ, ◌<◌, ◌≤◌, List, refl, sym, ◌∙◌, ap, subst, arith, lit≤}
 use Rattle.std.proofs.lemmas.Bool.{cases_lt}
 use Rattle.hl_media.specs.History.{Image}
 use Rattle.hl_addr.specs.Layout.{Layout, IsWithinLimits}
@@ -15,13 +15,15 @@ use Rattle.hl_nodes.specs.declared.rule.Rule.{Rule}
 use Rattle.hl_nodes.specs.declared.rule.Rule.TheVariants.{TablePlace, TableBytes}
 use Rattle.hl_nodes.specs.Breaks.{Breaks, IsTableAt}
 use Rattle.hl_nodes.specs.Verdicts.{rule_number, BreaksNoneBefore}
+use Rattle.hl_nodes.proofs.Frame.{table_count}
 use Rattle.hl_nodes.proofs.PointerLemmas.{in_log-high}
 use Rattle.hl_found.proofs.TablesFound.{shape_between}
 use Rattle.hl_recovery.specs.declared.stop.MountError.{MountError}
 use Rattle.hl_recovery.specs.declared.stop.MountError.TheVariants.{NoLabel, NoRecord, WrongRack, Damaged, DiskFault, Memory}
-use Rattle.hl_recovery.specs.Recoveries.{AreInPlace, HasSite}
+use Rattle.hl_recovery.specs.declared.recovering.Recovered.{Recovered}
+use Rattle.hl_recovery.specs.Recoveries.{AreInPlace, HasRecovered, HasSite}
 use Rattle.hl_recovery.specs.Stops.{IsStopped}
-use Rattle.hl_recovery.specs.TablePlaces.{IsMisplaced, StopsAtTable, StopsAtTables}
+use Rattle.hl_recovery.specs.TablePlaces.{IsMisplaced, IsTableRule, StopsAtTable, StopsAtTables}
 
 -- the log is a part of the site
 pub log_in_site : (g : Layout) → log_end g ≤ site_blocks g
@@ -118,3 +120,18 @@ module _ (g : Layout) (image : Image) (rec : Record) where
   }
   tables_stopped blocks rack parts has same chain DiskFault is = tt
   tables_stopped blocks rack parts has same chain Memory is = tt
+
+-- what was recovered breaks neither rule 1 nor rule 2
+module _ (blocks : ℕ) (rack : List ℕ) (r : Recovered) (image : Image) (has : HasRecovered blocks rack r image) (parts : List Summary) (t : TableValues) where
+  bytes_kept : (address : ℕ) → Breaks r.geometry image r.rec parts t TableBytes address → ⊥
+  bytes_kept address (i, at, off) =
+      let lt = at.0 in
+      off (record {
+        values = has.laid.before;
+        shape = has.laid.spelled.values.shape;
+        block = sym (has.laid.spelled.blocks i (omega (arith, table_count r.geometry image r.rec has.site.newest has.site.volumes))) ∙ ap image at.1;
+      })
+
+  pub recovered_keeps : (rule : Rule) (address : ℕ) → IsTableRule rule → Breaks r.geometry image r.rec parts t rule address → ⊥
+  recovered_keeps rule address (inl is) broken = keep_first r.geometry image r.rec has.in_place parts t address (subst (λ (x : Rule). Breaks r.geometry image r.rec parts t x address) is broken)
+  recovered_keeps rule address (inr is) broken = bytes_kept address (subst (λ (x : Rule). Breaks r.geometry image r.rec parts t x address) is broken)

@@ -48,6 +48,7 @@ pub record IsReady (blocks : ℕ) (rack : List ℕ) (r : Recovered) : Type 0 whe
   pub room : site_blocks r.geometry ≤ blocks
   pub rack_is : rack ≡ r.geometry.volumes
   pub volumes : r.rec.volumes ≡ r.geometry.volumes
+  pub start : IsLogPlace r.geometry (start_of r.rec)
   pub head : IsLogPlace r.geometry r.at
   pub segments : length r.covered.items ≡ r.geometry.log + 1
   pub tseg_serial : 1 ≤ r.tseg_serial

@@ -7,11 +7,16 @@ use Rattle.hl_summary.specs.declared.parts.Summary.{Summary}
 use Rattle.hl_image.specs.Places.{InLog}
 use Rattle.hl_tables.specs.Values.{TableValues}
 use Rattle.hl_tables.specs.TableBlocks.{IsTableBlock}
-use Rattle.hl_nodes.specs.declared.rule.Rule.TheVariants.{TableBytes}
+use Rattle.hl_nodes.specs.declared.rule.Rule.{Rule}
+use Rattle.hl_nodes.specs.declared.rule.Rule.TheVariants.{TablePlace, TableBytes}
 use Rattle.hl_nodes.specs.Breaks.{Breaks}
 use Rattle.hl_nodes.specs.Verdicts.{rule_number, BreaksNoneBefore}
 use Rattle.hl_recovery.specs.declared.stop.MountError.{MountError}
 use Rattle.hl_recovery.specs.declared.stop.MountError.TheVariants.{NoLabel, NoRecord, WrongRack, Damaged, DiskFault, Memory}
+
+-- the rules of the places and of the bytes of table blocks
+abbrev pub IsTableRule : Rule → Type 0
+IsTableRule rule = (rule ≡ TablePlace) ⊎ (rule ≡ TableBytes)
 
 -- an address among these that isn't in the log, or stands before too
 pub record IsMisplaced (g : Layout) (addresses : List ℕ) (address : ℕ) : Type 0 where

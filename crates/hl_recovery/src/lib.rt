@@ -10,6 +10,7 @@
 mod chain;
 mod covered;
 mod label;
+pub mod laws;
 mod rack;
 mod reading;
 mod recovering;

@@ -22,7 +22,7 @@ use hl_addr::Geometry;
 use hl_bytes::SegBuf;
 use hl_media::{Failed, Machine};
 use hl_nodes::Rule;
-use hl_survey::SurveyStop;
+use hl_survey::CheckError;
 use hl_tables::Tables;
 use hl_tseg::Slot;
 use hl_view::LineView;
@@ -126,13 +126,13 @@ pub fn check_lines<M: Machine>(
     machine: &mut M,
     geometry: &Geometry,
     tables: &Tables,
-) -> Result<(), SurveyStop>
+) -> Result<(), CheckError>
     requires room { site_blocks geometry.now ≤ M.blocks machine.old }
     requires lines { HaveLines geometry.now tables.now.slots }
     ensures kept { OnOk result (Now (M.history machine.old)
         (λ s. KeepsRule geometry.now tables.now LineBytes s.content)) }
-    ensures stops { IfErr result (Stops M.history M.faults
-        (BreaksTried geometry.now tables.now LineBytes) machine.old machine.new) }
+    ensures stops { IfErr result (Stops (M.history machine.old)
+        (BreaksTried geometry.now tables.now LineBytes)) }
     ensures machine { OnlyReads M.history M.blocks M.faults M.write_faults M.say_faults
         machine.old machine.new }
     ensures fault { MatchResult result (λ _. M.faults machine.new ≡ M.faults machine.old)
@@ -142,7 +142,7 @@ pub fn check_lines<M: Machine>(
     let slots = tables.slots().items();
     'slots: for i in 0..slots.len() {
         if let Some(block) = off_line(machine, geometry, slots[i], &mut buffer)? {
-            return Err(SurveyStop::Damaged {
+            return Err(CheckError::Damaged {
                 block,
                 rule: Rule::LineBytes,
             });

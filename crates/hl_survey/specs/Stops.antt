@@ -1,4 +1,4 @@
--- Why a survey stops.
+-- Why a look at the rules of a disk stops.
 use Rattle.std.specs.Prelude.{◌≡◌, ℕ, List, slice_index, Option}
 use Rattle.hl_media.specs.History.{History, Image}
 use Rattle.hl_media.specs.Moments.{Now}
@@ -11,8 +11,8 @@ use Rattle.hl_inode.specs.declared.inode.Inode.{Inode}
 use Rattle.hl_nodes.specs.declared.rule.Rule.{Rule}
 use Rattle.hl_nodes.specs.Breaks.{Breaks}
 use Rattle.hl_nodes.specs.Directories.{IsInodeIn, IsInUse}
-use Rattle.hl_survey.specs.declared.found.SurveyStop.{SurveyStop}
-use Rattle.hl_survey.specs.declared.found.SurveyStop.TheVariants as stop
+use Rattle.hl_survey.specs.declared.check_error.CheckError.{CheckError}
+use Rattle.hl_survey.specs.declared.check_error.CheckError.TheVariants as stop
 
 -- the rule is broken at the block, whatever parts the chain has
 abbrev pub IsBroken : Layout → Record → TableValues → Image → Rule → ℕ → Type 0
@@ -29,17 +29,13 @@ BreaksPointers g t own v image rule block = (rec : Record) (ino : ℕ) → IsIno
     → IsBroken g rec t image rule block
 
 -- the count of failed calls rose where a fault is told, and stays otherwise
-abbrev pub StopsBy : ℕ → ℕ → SurveyStop → Type 0
+abbrev pub StopsBy : ℕ → ℕ → CheckError → Type 0
 StopsBy before now (stop.Damaged block rule) = now ≡ before
 StopsBy before now stop.DiskFault = Rose before now
 StopsBy before now stop.Memory = now ≡ before
 
-module _ {M : Type 0} where
-  -- Damage is told where what reads gave has it, and a fault where the count rose; memory may be
-  -- wanting at any time.
-  abbrev pub Stops : (M → Option History) → (M → ℕ) → (Image → Rule → ℕ → Type 0) → M → M
-      → SurveyStop → Type 0
-  Stops history faults Told before now (stop.Damaged block rule) =
-      Now (history before) (λ s. Told s.content rule block)
-  Stops history faults Told before now stop.DiskFault = Rose (faults before) (faults now)
-  Stops history faults Told before now stop.Memory = Unit {0}
+-- damage that is told is what reads gave; a fault and want of memory tell nothing of the disk
+abbrev pub Stops : Option History → (Image → Rule → ℕ → Type 0) → CheckError → Type 0
+Stops before Told (stop.Damaged block rule) = Now before (λ s. Told s.content rule block)
+Stops before Told stop.DiskFault = Unit {0}
+Stops before Told stop.Memory = Unit {0}

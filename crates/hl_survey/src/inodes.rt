@@ -8,7 +8,7 @@ ghost use Rattle.hl_nodes.specs.Breaks.{IsOffInode};
 ghost use Rattle.hl_survey.specs.Surveys.{IsInodeOf};
 ghost use Rattle.hl_survey.specs.Stops.{BreaksInode, Stops, StopsBy};
 
-use crate::found::SurveyStop;
+use crate::check_error::CheckError;
 use crate::reading::read_block;
 use hl_bytes::BLOCK;
 use hl_inode::{Inode, Kind, decode};
@@ -42,13 +42,13 @@ pub(crate) fn read_inode<M: Machine>(
     machine: &mut M,
     ino: u32,
     own: u32,
-) -> Result<Inode, SurveyStop>
+) -> Result<Inode, CheckError>
     requires { own < M.blocks machine.old }
     ensures inode { IfOk result (λ v.
         Now (M.history machine.old) (λ s. IsInodeOf ino (s.content own) v)) }
     ensures is { IfOk result IsInode }
     ensures stops { IfErr result
-        (Stops M.history M.faults (BreaksInode ino own) machine.old machine.new) }
+        (Stops (M.history machine.old) (BreaksInode ino own)) }
     ensures machine { OnlyReads M.history M.blocks M.faults M.write_faults M.say_faults
         machine.old machine.new }
     ensures fault { MatchResult result (λ _. M.faults machine.new ≡ M.faults machine.old)
@@ -58,7 +58,7 @@ pub(crate) fn read_inode<M: Machine>(
     read_block(machine, own, &mut block)?;
     match inode_of(ino, &block) {
         Some(inode) => Ok(inode),
-        None => Err(SurveyStop::Damaged {
+        None => Err(CheckError::Damaged {
             block: own,
             rule: Rule::InodeBytes,
         }),

@@ -2,6 +2,7 @@
 //! the map's entries, of inodes, of pointers and of pointer blocks (`docs/FORMATS.md`, "The rules of a mount").
 #![tactic(auto)]
 
+mod check_error;
 mod entries;
 mod found;
 mod inodes;
@@ -10,5 +11,6 @@ mod pointers;
 mod reading;
 mod scan;
 
-pub use found::{FoundInode, SurveyStop};
+pub use check_error::CheckError;
+pub use found::FoundInode;
 pub use scan::survey;

@@ -13,7 +13,7 @@ ghost use Rattle.hl_survey.specs.Surveys.{ArePointers, IsPointer};
 ghost use Rattle.hl_survey.specs.Pointing.{HasBlock, HasPointers, HoldsBlock, IsOffBlock, NamesOwnBlocks, SpellsPointers, number_at};
 ghost use Rattle.hl_survey.specs.Stops.{BreaksPointers, Stops, StopsBy};
 
-use crate::found::SurveyStop;
+use crate::check_error::CheckError;
 use crate::reading::read_block;
 use hl_addr::{Geometry, NOTHING, Place};
 use hl_bytes::BLOCK;
@@ -152,15 +152,14 @@ fn read_pointer_block<M: Machine>(
     own: u32,
     inode: &Inode,
     out: &mut [u8],
-) -> Result<(), SurveyStop>
+) -> Result<(), CheckError>
     requires size { length out.old ≡ 4096 }
     requires room { site_blocks geometry.now ≤ M.blocks machine.old }
     ensures block { OnOk result (Now (M.history machine.old)
         (λ s. SpellsPointers geometry.now s.content inode.now out.new)) }
     ensures size { length out.new ≡ 4096 }
-    ensures stops { IfErr result (Stops M.history M.faults (λ image rule block.
-        (t : TableValues) → BreaksPointers geometry.now t own inode.now image rule block)
-        machine.old machine.new) }
+    ensures stops { IfErr result (Stops (M.history machine.old) (λ image rule block.
+        (t : TableValues) → BreaksPointers geometry.now t own inode.now image rule block)) }
     ensures machine { OnlyReads M.history M.blocks M.faults M.write_faults M.say_faults
         machine.old machine.new }
     ensures fault { MatchResult result (λ _. M.faults machine.new ≡ M.faults machine.old)
@@ -170,7 +169,7 @@ fn read_pointer_block<M: Machine>(
         return Ok(());
     }
     if !is_in_log(geometry, inode.single) {
-        return Err(SurveyStop::Damaged {
+        return Err(CheckError::Damaged {
             block: own,
             rule: Rule::PointerPlace,
         });
@@ -179,7 +178,7 @@ fn read_pointer_block<M: Machine>(
     if names_own_blocks(inode.size, out) {
         Ok(())
     } else {
-        Err(SurveyStop::Damaged {
+        Err(CheckError::Damaged {
             block: inode.single,
             rule: Rule::PointerBlock,
         })
@@ -194,14 +193,14 @@ pub(crate) fn read_pointers<M: Machine>(
     tables: &Tables,
     own: u32,
     inode: &Inode,
-) -> Result<Vec<u32>, SurveyStop>
+) -> Result<Vec<u32>, CheckError>
     requires room { site_blocks geometry.now ≤ M.blocks machine.old }
     requires slots { tables.now.slots.volumes ≡ geometry.now.volumes }
     requires size { inode.now.size ≤ 4243456 }
     ensures pointers { IfOk result (λ r. Now (M.history machine.old)
         (λ s. HasPointers geometry.now tables.now.slots s.content inode.now r.items)) }
-    ensures stops { IfErr result (Stops M.history M.faults
-        (BreaksPointers geometry.now tables.now own inode.now) machine.old machine.new) }
+    ensures stops { IfErr result (Stops (M.history machine.old)
+        (BreaksPointers geometry.now tables.now own inode.now)) }
     ensures machine { OnlyReads M.history M.blocks M.faults M.write_faults M.say_faults
         machine.old machine.new }
     ensures fault { MatchResult result (λ _. M.faults machine.new ≡ M.faults machine.old)
@@ -211,7 +210,7 @@ pub(crate) fn read_pointers<M: Machine>(
     read_pointer_block(machine, geometry, own, inode, &mut block)?;
     match pointers_of(alloc, geometry, tables, inode, &block)? {
         Some(pointers) => Ok(pointers),
-        None => Err(SurveyStop::Damaged {
+        None => Err(CheckError::Damaged {
             block: own,
             rule: Rule::PointerPlace,
         }),

@@ -10,8 +10,9 @@ ghost use Rattle.hl_tables.specs.Values.{AreTables};
 ghost use Rattle.hl_survey.specs.Surveys.{AreSurveyed, IsFound, IsFoundInode};
 ghost use Rattle.hl_survey.specs.Stops.{IsBroken, Stops, StopsBy};
 
+use crate::check_error::CheckError;
 use crate::entries::{is_off_entry, map_block};
-use crate::found::{FoundInode, SurveyStop};
+use crate::found::FoundInode;
 use crate::inodes::read_inode;
 use crate::pointers::read_pointers;
 use hl_addr::{Geometry, NOTHING};
@@ -28,7 +29,7 @@ fn survey_inode<M: Machine>(
     geometry: &Geometry,
     tables: &Tables,
     ino: u32,
-) -> Result<FoundInode, SurveyStop>
+) -> Result<FoundInode, CheckError>
     requires room { site_blocks geometry.now ≤ M.blocks machine.old }
     requires tables { AreTables geometry.now tables.now }
     requires low { 1 ≤ ino }
@@ -37,9 +38,8 @@ fn survey_inode<M: Machine>(
     requires within { slice_index tables.now.inodes ino < log_end geometry.now }
     ensures found { IfOk result (λ found. Now (M.history machine.old)
         (λ s. IsFoundInode geometry.now s.content tables.now ino found)) }
-    ensures stops { IfErr result (Stops M.history M.faults (λ image rule block.
-        (rec : Record) → IsBroken geometry.now rec tables.now image rule block)
-        machine.old machine.new) }
+    ensures stops { IfErr result (Stops (M.history machine.old) (λ image rule block.
+        (rec : Record) → IsBroken geometry.now rec tables.now image rule block)) }
     ensures machine { OnlyReads M.history M.blocks M.faults M.write_faults M.say_faults
         machine.old machine.new }
     ensures fault { MatchResult result (λ _. M.faults machine.new ≡ M.faults machine.old)
@@ -63,15 +63,15 @@ fn survey_number<M: Machine>(
     rec: &Record,
     tables: &Tables,
     ino: u32,
-) -> Result<Option<FoundInode>, SurveyStop>
+) -> Result<Option<FoundInode>, CheckError>
     requires room { site_blocks geometry.now ≤ M.blocks machine.old }
     requires blocks { length rec.now.tables ≡ table_blocks geometry.now }
     requires tables { AreTables geometry.now tables.now }
     requires number { ino < geometry.now.inodes }
     ensures found { IfOk result (λ found. Now (M.history machine.old)
         (λ s. IsFound geometry.now s.content tables.now ino found)) }
-    ensures stops { IfErr result (Stops M.history M.faults
-        (IsBroken geometry.now rec.now tables.now) machine.old machine.new) }
+    ensures stops { IfErr result (Stops (M.history machine.old)
+        (IsBroken geometry.now rec.now tables.now)) }
     ensures machine { OnlyReads M.history M.blocks M.faults M.write_faults M.say_faults
         machine.old machine.new }
     ensures fault { MatchResult result (λ _. M.faults machine.new ≡ M.faults machine.old)
@@ -79,7 +79,7 @@ fn survey_number<M: Machine>(
 {
     let address = tables.inode(ino);
     if is_off_entry(geometry, ino, address) {
-        return Err(SurveyStop::Damaged {
+        return Err(CheckError::Damaged {
             block: map_block(geometry, rec, ino),
             rule: Rule::MapEntry,
         });
@@ -100,7 +100,7 @@ pub fn survey<M: Machine>(
     geometry: &Geometry,
     rec: &Record,
     tables: &Tables,
-) -> Result<Vec<Option<FoundInode>>, SurveyStop>
+) -> Result<Vec<Option<FoundInode>>, CheckError>
     requires room { site_blocks geometry.now ≤ M.blocks machine.old }
     requires blocks { length rec.now.tables ≡ table_blocks geometry.now }
     requires tables { AreTables geometry.now tables.now }
@@ -109,8 +109,8 @@ pub fn survey<M: Machine>(
 
     // So many are found even on a machine that tells nothing.
     ensures count { IfOk result (λ found. length found.items ≡ geometry.now.inodes) }
-    ensures stops { IfErr result (Stops M.history M.faults
-        (IsBroken geometry.now rec.now tables.now) machine.old machine.new) }
+    ensures stops { IfErr result (Stops (M.history machine.old)
+        (IsBroken geometry.now rec.now tables.now)) }
     ensures machine { OnlyReads M.history M.blocks M.faults M.write_faults M.say_faults
         machine.old machine.new }
     ensures fault { MatchResult result (λ _. M.faults machine.new ≡ M.faults machine.old)

@@ -47,8 +47,7 @@ returns-in_err-append_block-clause-stops g c =
     let p = err_from_is_err_and c.from_residual.result c.from_residual.ensures.1 in
     let Told = λ (image : Image) (rule : Rule) (block : ℕ). ⊥ in
     rw (p.1, p.2)
-    (stops_then {M = g.row.M.Denot} g.M.Machine.history g.M.Machine.blocks g.M.Machine.faults g.M.Machine.write_faults g.M.Machine.say_faults Told c.args.machine.now c.pointers.machine c.append_block.new.machine
-    c.pointers.invariant.machine c.in_err-append_block.field-0.0 c.in_err-append_block.ensures.stops)
+    (stops_then Told (g.M.Machine.history c.args.machine.now) (g.M.Machine.history c.pointers.machine) c.pointers.invariant.machine.unchanged c.in_err-append_block.field-0.0 c.in_err-append_block.ensures.stops)
 
 pub returns-clause-blocks : goal.returns-clause-blocks
 returns-clause-blocks g c h e =

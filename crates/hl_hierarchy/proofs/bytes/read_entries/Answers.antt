@@ -32,7 +32,7 @@ returns-in_err-bytes-clause-stops g c =
     let Told = λ (image : Image) (rule : Rule) (block : ℕ). ⊥ in
     let More = λ (image : Image) (rule : Rule) (block : ℕ). BreaksDirectory c.args.geometry.now c.args.dir.now image rule block in
     rw (p.1, p.2)
-    (stops_where {M = g.row.M.Denot} g.M.Machine.history g.M.Machine.faults Told More (λ (image : Image). Unit {0}) c.args.machine.now c.read_blocks.new.machine (λ h e. tt)
+    (stops_where Told More (λ (image : Image). Unit {0}) (g.M.Machine.history c.args.machine.now) (λ h e. tt)
     (λ image _ rule block told. absurd told) c.in_err-bytes.field-0.0 c.in_err-bytes.ensures.stops)
 
 pub entries_in-requires : goal.entries_in-requires

@@ -41,10 +41,8 @@ returns-in_err-name_number-clause-stops g c =
     let Told = λ (image : Image) (rule : Rule) (block : ℕ). BreaksNaming site found parents ino image rule block in
     let More = λ (image : Image) (rule : Rule) (block : ℕ). BreaksSurveyed site found image rule block in
     rw (p.1, p.2)
-    (stops_where {M = g.row.M.Denot} g.M.Machine.history g.M.Machine.faults Told More (λ (image : Image). (t : TableValues) → AreSurveyed site image t found → AreNamedBelow site image found parents ino)
-    c.args.machine.now c.name_number.new.machine c.numbers.invariant.named (λ image named rule block told t are. told c.numbers.invariant.below (named t are) t are) c.in_err-name_number.field-0.0
-    (stops_then {M = g.row.M.Denot} g.M.Machine.history g.M.Machine.blocks g.M.Machine.faults g.M.Machine.write_faults g.M.Machine.say_faults Told c.args.machine.now c.numbers.machine c.name_number.new.machine
-    c.numbers.invariant.machine c.in_err-name_number.field-0.0 c.in_err-name_number.ensures.stops))
+    (stops_where Told More (λ (image : Image). (t : TableValues) → AreSurveyed site image t found → AreNamedBelow site image found parents ino) (g.M.Machine.history c.args.machine.now) c.numbers.invariant.named (λ image named rule block told t are. told c.numbers.invariant.below (named t are) t are) c.in_err-name_number.field-0.0
+    (stops_then Told (g.M.Machine.history c.args.machine.now) (g.M.Machine.history c.numbers.machine) c.numbers.invariant.machine.unchanged c.in_err-name_number.field-0.0 c.in_err-name_number.ensures.stops))
 
 pub returns-clause-names : goal.returns-clause-names
 returns-clause-names g c h e t are =

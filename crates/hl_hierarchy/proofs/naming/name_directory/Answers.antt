@@ -18,7 +18,7 @@ returns-in_err-entries-clause-stops g c =
     let Told = λ (image : Image) (rule : Rule) (block : ℕ). BreaksDirectory site dir image rule block in
     let More = λ (image : Image) (rule : Rule) (block : ℕ). BreaksNaming site found c.args.parents.now c.args.ino image rule block in
     rw (p.1, p.2)
-    (stops_where {M = g.row.M.Denot} g.M.Machine.history g.M.Machine.faults Told More (λ (image : Image). Unit {0}) c.args.machine.now c.read_entries.new.machine (λ h e. tt)
+    (stops_where Told More (λ (image : Image). Unit {0}) (g.M.Machine.history c.args.machine.now) (λ h e. tt)
     (λ image _ rule block told below named t are. told t c.args.ino (at_found found site image t are c.args.ino dir c.requires.dir) c.requires.kind) c.in_err-entries.field-0.0 c.in_err-entries.ensures.stops)
 
 pub returns-then-note_entries-clause-names : goal.returns-then-note_entries-clause-names

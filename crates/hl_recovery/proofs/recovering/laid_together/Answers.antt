@@ -43,6 +43,7 @@ returns-clause-ready c = λ blocks rack is same.
       room = is.room;
       rack_is = same;
       volumes = is.volumes;
+      start = is.start;
       head = subst (IsLogPlace site.geometry) (sym c.requires.chain.at_is) place;
       segments = c.in_ok-covered.ensures.size;
       tseg_serial = omega (arith, is.tseg_serial, c.raised_behind-tseg_serial.ensures, parts_raise_to site.rec.tseg_serial (parts_found c.as_slice-3.result.now));

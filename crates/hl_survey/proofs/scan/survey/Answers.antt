@@ -18,8 +18,7 @@ returns-in_err-survey_number-clause-stops g c =
     let p = err_from_is_err_and c.from_residual.result c.from_residual.ensures.1 in
     let Told = λ (image : Image) (rule : Rule) (block : ℕ). IsBroken c.args.geometry.now c.args.rec.now c.args.tables.now image rule block in
     rw (p.1, p.2)
-    (stops_then {M = g.row.M.Denot} g.M.Machine.history g.M.Machine.blocks g.M.Machine.faults g.M.Machine.write_faults g.M.Machine.say_faults Told c.args.machine.now c.numbers.machine c.survey_number.new.machine
-    c.numbers.invariant.machine c.in_err-survey_number.field-0.0 c.in_err-survey_number.ensures.stops)
+    (stops_then Told (g.M.Machine.history c.args.machine.now) (g.M.Machine.history c.numbers.machine) c.numbers.invariant.machine.unchanged c.in_err-survey_number.field-0.0 c.in_err-survey_number.ensures.stops)
 
 pub returns-in_err-survey_number-clause-machine : goal.returns-in_err-survey_number-clause-machine
 returns-in_err-survey_number-clause-machine g c = reads_then c.numbers.invariant.machine c.survey_number.ensures.machine

@@ -33,10 +33,9 @@ returns-in_err-pointers-clause-stops g c =
     let Told = λ (image : Image) (rule : Rule) (block : ℕ). BreaksPointers site t own v image rule block in
     let More = λ (image : Image) (rule : Rule) (block : ℕ). (rec : Record) → IsBroken site rec t image rule block in
     rw (p.1, p.2)
-    (stops_where {M = g.row.M.Denot} g.M.Machine.history g.M.Machine.faults Told More (λ (image : Image). IsInodeOf ino (image own) v) c.args.machine.now c.read_pointers.new.machine c.in_ok-inode.ensures.inode
+    (stops_where Told More (λ (image : Image). IsInodeOf ino (image own) v) (g.M.Machine.history c.args.machine.now) c.in_ok-inode.ensures.inode
     (λ image is rule block told rec. told rec ino (stands_there site image t ino own v c.requires.low c.requires.high entry in_log is)) c.in_err-pointers.field-0.0
-    (stops_then {M = g.row.M.Denot} g.M.Machine.history g.M.Machine.blocks g.M.Machine.faults g.M.Machine.write_faults g.M.Machine.say_faults Told c.args.machine.now c.read_inode.new.machine c.read_pointers.new.machine
-    c.in_ok-inode.ensures.machine c.in_err-pointers.field-0.0 c.in_err-pointers.ensures.stops))
+    (stops_then Told (g.M.Machine.history c.args.machine.now) (g.M.Machine.history c.read_inode.new.machine) c.in_ok-inode.ensures.machine.unchanged c.in_err-pointers.field-0.0 c.in_err-pointers.ensures.stops))
 
 pub returns-clause-found : goal.returns-clause-found
 returns-clause-found g c h e =
