@@ -11,7 +11,7 @@ use hl_hierarchy::check_hierarchy;
 use hl_mem::MemMachine;
 use hl_recovery::{MountError, Recovered, recover};
 use hl_staged::check_slots;
-use hl_survey::{FoundInode, SurveyStop, survey};
+use hl_survey::{CheckError, FoundInode, survey};
 use hl_trial::images::BYTES;
 use std::alloc::{AllocError, Global};
 
@@ -32,7 +32,7 @@ pub struct Counted {
     pub slot: Option<u32>,
     pub over: Option<u32>,
     /// What is answered of the directories.
-    pub hierarchy: Result<(), SurveyStop>,
+    pub hierarchy: Result<(), CheckError>,
 }
 
 /// A disk with these bytes.
@@ -49,7 +49,7 @@ pub fn surveyed(
     alloc: Global,
     image: &[u8],
     fails: u64,
-) -> Result<Result<Vec<Option<FoundInode>>, SurveyStop>, MountError> {
+) -> Result<Result<Vec<Option<FoundInode>>, CheckError>, MountError> {
     let mut machine = disk_of(alloc, image)?;
     let first = recover(alloc, &mut machine, &[4])?;
     let made = machine.now() / 2;
@@ -63,7 +63,7 @@ fn count_all(
     alloc: Global,
     first: &Recovered,
     found: &[Option<FoundInode>],
-    hierarchy: Result<(), SurveyStop>,
+    hierarchy: Result<(), CheckError>,
 ) -> Result<Counted, AllocError>
     requires blocks { length first.now.rec.tables ≡ table_blocks first.now.geometry }
     requires tables { AreTables first.now.geometry first.now.tables }

@@ -4,7 +4,7 @@ use super::parts::surveyed;
 use hl_addr::NOTHING;
 use hl_inode::Kind;
 use hl_nodes::{FoundBlock, FoundNode, Rule};
-use hl_survey::{FoundInode, SurveyStop};
+use hl_survey::{CheckError, FoundInode};
 use hl_trial::images::{AWAY, change, nodes, sparse_image};
 use std::alloc::Global;
 use std::process::Abort;
@@ -109,7 +109,7 @@ fn stop_of(
     alloc: Global,
     changes: &str,
     fails: u64,
-) -> Result<Option<SurveyStop>, Fail> {
+) -> Result<Option<CheckError>, Fail> {
     let mut image = sparse_image(alloc)?;
     assert!(rt; change(&mut image, changes), "{changes}");
     Ok(surveyed(alloc, &image, fails)?.err())
@@ -123,7 +123,7 @@ fn a_survey_tells_the_block_and_the_rule(rt: HostRuntime) -> Result<(), Fail> {
         ("74+4=slot+65", 71, Rule::PointerPlace),
         ("74+8=75", 74, Rule::PointerBlock),
     ] {
-        let wanted = SurveyStop::Damaged { block, rule };
+        let wanted = CheckError::Damaged { block, rule };
         let stop = stop_of(&rt, rt.alloc(), changes, 0)?;
         assert!(rt; stop == Some(wanted), "{changes}");
     }
@@ -134,7 +134,7 @@ fn a_survey_tells_the_block_and_the_rule(rt: HostRuntime) -> Result<(), Fail> {
 fn a_failed_read_is_a_fault_and_no_fourth_block_is_read(rt: HostRuntime) -> Result<(), Fail> {
     for fails in [1, 2, 3] {
         let stop = stop_of(&rt, rt.alloc(), "", fails)?;
-        assert!(rt; stop == Some(SurveyStop::DiskFault), "call {fails}");
+        assert!(rt; stop == Some(CheckError::DiskFault), "call {fails}");
     }
     assert!(rt; stop_of(&rt, rt.alloc(), "", 4)?.is_none());
     Ok(())
