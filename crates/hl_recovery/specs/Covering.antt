@@ -1,5 +1,5 @@
 -- How far the parts before one reach in a segment.
-use Rattle.std.specs.Prelude.{ℕ, ◌+◌, ◌<◌, ◌≤◌, ◌==◌, if◌then◌else◌, max, length}
+use Rattle.std.specs.Prelude.{ℕ, ◌+◌, ◌≤◌, ◌==◌, if◌then◌else◌, max, length}
 use Rattle.hl_addr.specs.Layout.{Layout}
 use Rattle.hl_image.specs.declared.chain.ChainPart.{ChainPart}
 
