@@ -1,5 +1,5 @@
 -- What holds of the log between steps: cleaned segments hold no block of the tree, and nothing is dirty while passes are left.
-use Rattle.std.proofs.Common.{arith, ◌≡◌, ◌≤◌, ◌⊎◌, ℕ, Bool, true, false, List, [], ◌∷◌, None, sym, ◌∙◌, ap, subst, inl, inr, length}
+use Rattle.std.proofs.Common.{arith, ◌≡◌, ◌⊎◌, ℕ, Bool, true, false, List, [], ◌∷◌, None, sym, ◌∙◌, ap, subst, inl, inr}
 use Rattle.std.specs.Prelude.{Contains}
 use Rattle.hl_addr.specs.Layout.{Layout}
 use Rattle.hl_tree.specs.declared.call.Reply.TheVariants as replies
@@ -10,7 +10,7 @@ use Rattle.hl_model.specs.Cleaning.{Live, LogUse}
 use Rattle.hl_model.specs.Dues.{is_due}
 use Rattle.hl_model.specs.Events.{SiteEvent}
 use Rattle.hl_model.specs.Steps.{State, SiteStep, IsRuled, IsGivenUp, GoesFirst}
-use Rattle.hl_model.specs.Units.{AreEmptied, AreNoFuller, Cleans, HasBegunAnew, HasChanged, HasCleaned, HoldsNone, IsQuiet, LeavesLog, LogGoesOn, Middles}
+use Rattle.hl_model.specs.Units.{AreEmptied, AreNoFuller, Cleans, HasBegunAnew, HasChanged, HasCleaned, IsQuiet, LeavesLog, LogGoesOn, Middles}
 use Rattle.hl_model.proofs.ClaimedBlocks.{in_cons, in_head, in_none, in_tail}
 use Rattle.hl_model.proofs.Failing.{failed_gives_up}
 
@@ -60,8 +60,12 @@ none_in [] [] n fuller spent = in_none spent.0 spent.1
 none_in [] (was ∷ weres) n fuller spent = absurd fuller
 none_in (one ∷ ones) [] n fuller spent = absurd fuller
 none_in (one ∷ ones) (was ∷ weres) n fuller spent = in_cons spent.0 was weres spent.1
-    (λ here. (one, in_head one ones, fuller.0 ∙ ap (λ (l : Live). l.segment) here ∙ spent.2,
-        (let less = fuller.1 in let none : was.charge ≡ 0 = ap (λ (l : Live). l.charge) here ∙ spent.3 in omega arith)))
+    (λ here. (
+      one,
+      in_head one ones,
+      fuller.0 ∙ ap (λ (l : Live). l.segment) here ∙ spent.2,
+      (let less = fuller.1 in let none : was.charge ≡ 0 = ap (λ (l : Live). l.charge) here ∙ spent.3 in omega arith),
+    ))
     (λ there. let found = none_in ones weres n fuller.2 (spent.0, there, spent.2, spent.3) in (found.0, in_tail found.0 one ones found.1, found.2, found.3))
 
 emptied_still : (a b : LogUse) → HasChanged a b → AreEmptied a → AreEmptied b
