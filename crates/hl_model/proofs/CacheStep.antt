@@ -1,5 +1,5 @@
 -- A step in which no write failed keeps what holds of lines, slots and jobs.
-use Rattle.std.proofs.Common.{◌≡◌, ◌-◌, ◌^◌, ◌<◌, None, Some, Ok, Err, ap, ◌∙◌, sym, subst, inl, inr}
+use Rattle.std.proofs.Common.{◌≡◌, ◌-◌, ◌^◌, ◌<◌, None, Ok, Err, ap, sym, subst}
 use Rattle.hl_addr.specs.Layout.{Layout}
 use Rattle.hl_placed.specs.Blocks.{Shelf}
 use Rattle.hl_model.specs.Allowed.{IsAllowed}

@@ -1,5 +1,5 @@
 -- What holds of the log between steps: cleaned segments hold no block of the tree, and nothing is dirty while passes are left.
-use Rattle.std.proofs.Common.{arith, ◌≡◌, ◌≤◌, ◌⊎◌, ℕ, Bool, true, false, List, [], ◌∷◌, None, sym, ◌∙◌, ap, subst, inl, inr, length}
+use Rattle.std.proofs.Common.{arith, ◌≡◌, ◌⊎◌, ℕ, Bool, true, false, List, [], ◌∷◌, None, sym, ◌∙◌, ap, subst, inl, inr}
 use Rattle.std.specs.Prelude.{Contains}
 use Rattle.hl_addr.specs.Layout.{Layout}
 use Rattle.hl_tree.specs.declared.call.Reply.TheVariants as replies
@@ -10,7 +10,7 @@ use Rattle.hl_model.specs.Cleaning.{Live, LogUse}
 use Rattle.hl_model.specs.Dues.{is_due}
 use Rattle.hl_model.specs.Events.{SiteEvent}
 use Rattle.hl_model.specs.Steps.{State, SiteStep, IsRuled, IsGivenUp, GoesFirst}
-use Rattle.hl_model.specs.Units.{AreEmptied, AreNoFuller, Cleans, HasBegunAnew, HasChanged, HasCleaned, HoldsNone, IsQuiet, LeavesLog, LogGoesOn, Middles}
+use Rattle.hl_model.specs.Units.{AreEmptied, AreNoFuller, Cleans, HasBegunAnew, HasChanged, HasCleaned, IsQuiet, LeavesLog, LogGoesOn, Middles}
 use Rattle.hl_model.proofs.ClaimedBlocks.{in_cons, in_head, in_none, in_tail}
 use Rattle.hl_model.proofs.Failing.{failed_gives_up}
 

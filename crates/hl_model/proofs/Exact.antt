@@ -1,11 +1,10 @@
 -- What follows for answers: a fetch finds a line, no job is stale, a segment has one line; and the site that a mount gives.
-use Rattle.std.proofs.Common.{arith, ◌≡◌, ℕ, zero, suc, ◌+◌, ◌<◌, ◌≤◌, nat_le, ◌⊎◌, Bool, true, false, not, nat_eq, List, [], ◌∷◌, get_or, length, Option, Some, None, Result, Ok, Err, ok_or, refl, ap, ◌∙◌, sym, subst, inl, inr, T, if◌then◌else◌}
+use Rattle.std.proofs.Common.{arith, ◌≡◌, ℕ, ◌+◌, ◌<◌, ◌≤◌, nat_le, ◌⊎◌, Bool, true, false, not, nat_eq, List, get_or, length, Option, Some, None, Result, Ok, Err, ok_or, refl, ap, ◌∙◌, sym, subst, inl, inr, if◌then◌else◌}
 use Rattle.std.proofs.lemmas.Bool.Decides.{nat_tests}
 use Rattle.std.proofs.lemmas.Bool.{cases_lt}
 use Rattle.std.proofs.lemmas.List.{get_or_past}
 use Rattle.std.proofs.lemmas.List.FromFn.{length-map-range_with_len, get_or-map-range_with_len}
-use Rattle.std.proofs.lemmas.List.Quantifiers.{position-Some}
-use Rattle.std.specs.List.{find, position}
+use Rattle.std.specs.List.{find}
 use Rattle.hl_addr.specs.Layout.{Layout, IsLineCount}
 use Rattle.hl_addr.specs.Slots.{volume_of}
 use Rattle.hl_tree.specs.Refusals.{◌>>=◌, refused_if}

@@ -1,5 +1,5 @@
 -- The lines of a script are one run of steps, and answer as plain files do.
-use Rattle.std.proofs.Common.{◌≡◌, ◌≢◌, ℕ, Bool, true, false, List, [], ◌∷◌, ◌++◌, Option, Some, None, Ok, Err, Result, ok_or, if◌then◌else◌, refl, ap, sym, ◌∙◌, subst, inl, inr, T}
+use Rattle.std.proofs.Common.{◌≡◌, ℕ, Bool, true, false, List, [], ◌∷◌, ◌++◌, Option, Some, None, ok_or, if◌then◌else◌, refl, ap, sym, ◌∙◌, subst, inl, inr, T}
 use Rattle.hl_addr.specs.Layout.{Layout}
 use Rattle.hl_media.specs.declared.job.Carried.{Carried}
 use Rattle.hl_media.specs.declared.job.Carried.TheVariants.{Done, EndOfMedium, Fault}
@@ -10,7 +10,7 @@ use Rattle.hl_script.specs.declared.line.Line.TheVariants as line
 use Rattle.hl_script.specs.declared.said.Said.{Said}
 use Rattle.hl_script.specs.declared.said.Said.TheVariants as said
 use Rattle.hl_tree.specs.Refusals.{◌>>=◌}
-use Rattle.hl_tree.specs.Rules.{Files, after}
+use Rattle.hl_tree.specs.Rules.{Files}
 use Rattle.hl_tree.specs.declared.call.Call.{Call}
 use Rattle.hl_tree.specs.declared.call.Reply.{Reply}
 use Rattle.hl_placed.specs.Blocks.{Shelf}
@@ -20,14 +20,14 @@ use Rattle.hl_model.specs.Answers as answers
 use Rattle.hl_model.specs.Ends.{arrived, end_carried, end_job, end_running, is_same, is_stale, kept_mark, moved_to}
 use Rattle.hl_model.specs.Events.{SiteEvent, Back, FileCall, BeginNeed, EndJob}
 use Rattle.hl_model.specs.LineRuns.{ArePlain, BringsIfOut, DoesLine, IsOneStep, IsReplyOf, LineRun, Last, MovesJob, Next, NoMore, TimedLine, files_after, files_behind, job_out, job_to_move}
-use Rattle.hl_model.specs.Ruled.{Ruled, limits_of, told_of}
+use Rattle.hl_model.specs.Ruled.{Ruled, told_of}
 use Rattle.hl_model.specs.Runs.{AreReplies, IsSite, Run, Stepped, plain_after, plain_run, shelf_behind}
 use Rattle.hl_model.specs.SaidLines.{said_of}
 use Rattle.hl_model.specs.Serving.{Answers, Blocked, BreaksOff, Brought, EndsOne, Failed, Fetched, Fetches, IsFree, MakesRoom, NeedsSegment, Refused, ServesCall, ends_line}
 use Rattle.hl_model.specs.Site.{SiteState}
 use Rattle.hl_model.specs.Steps.{State, SiteStep, IsRuled}
 use Rattle.hl_model.specs.Units.{Middles}
-use Rattle.hl_model.specs.Worlds.{Asks, Carries, ComesBack, EndsJob, HeldJob, IsCarried, WorldState}
+use Rattle.hl_model.specs.Worlds.{Asks, EndsJob, HeldJob, IsCarried, WorldState}
 use Rattle.hl_model.proofs.Runs.{run_in_plain, stands_now}
 
 -- WHAT IS SAID OF ANSWERS

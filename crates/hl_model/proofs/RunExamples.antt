@@ -1,5 +1,5 @@
 -- Worked examples of runs, of lines and of closings, and some that are none.
-use Rattle.std.proofs.Common.{arith, ◌≡◌, ℕ, ◌<◌, ◌≤◌, ◌⊎◌, true, false, List, [], ◌∷◌, replicate, Option, Some, None, Ok, is_ok, refl, ap, sym, ◌∙◌, subst, inl, inr}
+use Rattle.std.proofs.Common.{arith, ◌≡◌, ℕ, ◌⊎◌, true, false, List, [], ◌∷◌, replicate, Option, Some, None, refl, ap, inl, inr}
 use Rattle.std.specs.FinMap.{get, insert}
 use Rattle.hl_tree.specs.declared.node.Node.TheVariants.{Dir, File}
 use Rattle.hl_tree.specs.Tree.{content_at, walk, walk_to_parent}
@@ -22,12 +22,9 @@ use Rattle.hl_model.specs.Begins.{begin_copy}
 use Rattle.hl_model.specs.Causes.{may_break}
 use Rattle.hl_model.specs.Cleaning.{LogUse}
 use Rattle.hl_model.specs.Closed.{HasCheckpointed, HasNothingToWrite, IsClosed}
-use Rattle.hl_model.specs.Dues.{finds_full, is_due}
 use Rattle.hl_model.specs.Ends.{end_job}
 use Rattle.hl_model.specs.Events.{SiteEvent, Back, BeginCopy, Checkpoint, Eject, EndJob, Stage}
 use Rattle.hl_model.specs.LineRuns.{LineRun, Next, NoMore, TimedLine}
-use Rattle.hl_model.specs.Ruled.{told_of}
-use Rattle.hl_model.specs.Rules.{rules}
 use Rattle.hl_model.specs.Runs.{Run, Stepped, Takes}
 use Rattle.hl_model.specs.Serving.{in_the_way}
 use Rattle.hl_model.specs.Site.{SiteState}
@@ -36,7 +33,7 @@ use Rattle.hl_model.specs.Steps.{SiteStep, State}
 use Rattle.hl_model.specs.Units.{Middles, WritesMore}
 use Rattle.hl_model.specs.Worlds.{HeldJob, WorldState}
 use Rattle.hl_model.proofs.ClaimedBlocks.{in_head, in_none}
-use Rattle.hl_model.proofs.WorkedExamples.{site_a, fresh_site, job, log_with, no_log, one_block, path, staged_site}
+use Rattle.hl_model.proofs.WorkedExamples.{site_a, fresh_site, job, no_log, one_block, path, staged_site}
 
 abbrev at : SiteState → LogUse → State
 at s log = record { site = s; log = log; faults = 0; write_faults = 0 }

@@ -13,7 +13,7 @@ use Rattle.hl_model.proofs.Stopped.{IsCalm, IsStill, IsStopped, calm_plain, calm
 use Rattle.hl_placed.specs.Blocks.{Shelf, SerialsBelow}
 use Rattle.hl_placed.specs.Placed.{PlacedTree, plain, ArePlaced, EachFile}
 use Rattle.hl_placed.specs.Calls.{placed_after}
-use Rattle.hl_placed.specs.Staging.{IsNewSerial, HoldsBlocks, put_away}
+use Rattle.hl_placed.specs.Staging.{IsNewSerial, put_away}
 use Rattle.hl_addr.specs.Layout.{Layout}
 use Rattle.hl_model.specs.Site.{SiteState, next}
 use Rattle.hl_model.specs.Events.{SiteEvent, FileCall, Stage, EndJob}

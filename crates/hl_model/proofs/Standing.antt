@@ -1,5 +1,5 @@
 -- One invariant of a site: what a mount gives has it, and each step and each run keep it while the site runs.
-use Rattle.std.proofs.Common.{arith, ◌≡◌, ℕ, ◌-◌, ◌^◌, ◌<◌, true, false, List, [], ◌∷◌, length, Option, Some, None, refl, ap, ◌∙◌, sym, subst}
+use Rattle.std.proofs.Common.{◌≡◌, ℕ, List, [], ◌∷◌, length, Option, Some, None, refl, ap, ◌∙◌, sym, subst}
 use Rattle.std.specs.Prelude.{Contains}
 use Rattle.hl_addr.specs.Layout.{Layout}
 use Rattle.hl_placed.specs.Blocks.{Shelf, SerialsBelow}
@@ -10,17 +10,16 @@ use Rattle.hl_model.specs.Closed.{IsClosed, tables_of}
 use Rattle.hl_model.specs.InSlots.{AreInSlots}
 use Rattle.hl_model.specs.Mounted.{AreOpeningTables, IsMounted, OpeningTables, mounted}
 use Rattle.hl_model.specs.Runs.{IsSite, Run, Stepped, Takes, shelf_behind}
-use Rattle.hl_model.specs.Site.{SiteState}
 use Rattle.hl_model.specs.Standing.{IsStanding}
 use Rattle.hl_model.specs.Steps.{State}
-use Rattle.hl_model.specs.Units.{AreEmptied, IsQuiet}
+use Rattle.hl_model.specs.Units.{IsQuiet}
 use Rattle.hl_model.proofs.CacheStep.{step_keeps_cache}
 use Rattle.hl_model.proofs.ClaimedBlocks.{in_none}
 use Rattle.hl_model.proofs.Cleaned.{step_keeps_emptied, step_keeps_quiet}
 use Rattle.hl_model.proofs.Exact.{mounted_cache}
 use Rattle.hl_model.proofs.KeptStep.{step_keeps_serials}
 use Rattle.hl_model.proofs.Reopened.{tables_open}
-use Rattle.hl_model.proofs.Runs.{goes, run_in_plain, running_site, run_stays_stopped, stands_now}
+use Rattle.hl_model.proofs.Runs.{goes, running_site, run_stays_stopped, stands_now}
 
 module _ (g : Layout) where
   -- a step

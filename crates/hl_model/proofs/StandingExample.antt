@@ -1,17 +1,16 @@
 -- A worked example of the invariant: a site that was mounted, brought two segments into lines, and has two jobs out.
-use Rattle.std.proofs.Common.{arith, ◌≡◌, ◌≢◌, inl, ℕ, zero, suc, ◌-◌, ◌+◌, ◌/◌, ◌%◌, ◌<◌, ◌≤◌, Bool, true, false, cond, nat_eq, if◌then◌else◌, List, [], ◌∷◌, ◌++◌, replicate, length, length-append, get_or, Option, Some, None, option_map, refl, ap, sym, ◌∙◌, subst}
+use Rattle.std.proofs.Common.{arith, ◌≡◌, inl, ℕ, zero, suc, ◌-◌, ◌/◌, ◌%◌, ◌<◌, ◌≤◌, true, false, cond, List, [], ◌∷◌, ◌++◌, replicate, length, length-append, get_or, Option, Some, None, option_map, refl, ap, sym, ◌∙◌, subst}
 use Rattle.std.proofs.lemmas.List.{get_or_past}
-use Rattle.std.specs.FinMap.{FinMap, empty, get, get-empty, get-insert, gets, insert}
+use Rattle.std.specs.FinMap.{empty, get, get-empty, get-insert, gets, insert}
 use Rattle.hl_addr.specs.Layout.{Layout}
 use Rattle.hl_media.specs.declared.job.Carried.TheVariants.{Done}
-use Rattle.hl_media.specs.declared.job.JobKind.{JobKind}
 use Rattle.hl_media.specs.declared.job.JobKind.TheVariants.{Copy, Fetch}
 use Rattle.hl_media.specs.declared.job.JobNote.{JobNote}
 use Rattle.hl_tree.specs.declared.node.Node.{Node}
 use Rattle.hl_tree.specs.declared.node.Node.TheVariants.{Dir, File}
 use Rattle.hl_tree.specs.Names.{path_cmp}
-use Rattle.hl_tree.specs.OtherContents.{map_contents, node_map}
-use Rattle.hl_tree.specs.Tree.{IsTree, Tree, root_alone}
+use Rattle.hl_tree.specs.OtherContents.{node_map}
+use Rattle.hl_tree.specs.Tree.{IsTree, root_alone}
 use Rattle.hl_tree.proofs.Maps.{path_total}
 use Rattle.hl_tree.proofs.Moved.{Names, same, same_is}
 use Rattle.hl_tree_laws.proofs.OtherContents.{get-map_contents}
@@ -19,7 +18,7 @@ use Rattle.hl_tree_laws.proofs.Tree.{IsTree-insert}
 use Rattle.hl_tseg.specs.Slots.{serial_of}
 use Rattle.hl_tseg.specs.declared.slot.Slot.{Slot}
 use Rattle.hl_tseg.specs.declared.slot.Slot.TheVariants.{Free, Home, Spoilt, Staged}
-use Rattle.hl_placed.specs.Blocks.{Away, Block, Here, Hole, IsPlacedFile, PlacedFile, SerialsAre, SerialsBelow, Shelf, blocks_of, byte_of, file_block}
+use Rattle.hl_placed.specs.Blocks.{Away, Here, Hole, IsPlacedFile, PlacedFile, SerialsAre, SerialsBelow, Shelf, blocks_of, byte_of, file_block}
 use Rattle.hl_placed.specs.Placed.{ArePlaced, EachFile, PlacedTree, plain}
 use Rattle.hl_lines.specs.declared.state.LineState.TheVariants.{Aside, Clean, Empty, Staging}
 use Rattle.hl_model.specs.Answers.{SiteAnswer}

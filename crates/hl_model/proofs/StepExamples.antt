@@ -1,8 +1,7 @@
 -- Worked examples of whole steps: right rows, and wrong steps that are none.
-use Rattle.std.proofs.Common.{arith, ◌≡◌, ℕ, ◌-◌, ◌^◌, ◌≤◌, ◌<◌, ◌⊎◌, Bool, true, false, nat_lt, List, [], ◌∷◌, ◌++◌, ◌&&◌, ◌||◌, not, is_ok, Option, Some, None, Ok, Err, refl, ap, sym, ◌∙◌, subst, inl, inr}
+use Rattle.std.proofs.Common.{arith, ◌≡◌, ℕ, ◌-◌, ◌^◌, ◌⊎◌, Bool, true, false, nat_lt, List, [], ◌∷◌, ◌++◌, ◌&&◌, ◌||◌, not, is_ok, Some, None, Ok, refl, ap, sym, ◌∙◌, subst, inl, inr}
 use Rattle.std.specs.Prelude.{Contains}
 use Rattle.std.specs.FinMap.{get}
-use Rattle.hl_media.specs.Causes.{Rose}
 use Rattle.hl_tree.specs.declared.call.Call.TheVariants as calls
 use Rattle.hl_tree.specs.declared.call.Refusal.TheVariants as refusals
 use Rattle.hl_tree.specs.declared.call.Reply.TheVariants as replies
@@ -13,16 +12,13 @@ use Rattle.hl_placed.specs.Placed.{PlacedTree}
 use Rattle.hl_placed.specs.Staging.{put_away}
 use Rattle.hl_model.specs.Answers.{SiteAnswer}
 use Rattle.hl_model.specs.Answers as answers
-use Rattle.hl_model.specs.Begins.{begin_copy}
 use Rattle.hl_model.specs.Cleaning.{Live, LogUse, clean_one}
 use Rattle.hl_model.specs.Dues.{finds_full, is_due}
-use Rattle.hl_model.specs.Ends.{eject}
 use Rattle.hl_model.specs.Events.{SiteEvent, FileCall, Stage, BeginCopy, Eject, CleanOne, Checkpoint}
-use Rattle.hl_model.specs.FileCalls.{file_call}
 use Rattle.hl_model.specs.Ruled.{told_of}
 use Rattle.hl_model.specs.Site.{SiteState}
 use Rattle.hl_model.specs.Stagings.{stage}
-use Rattle.hl_model.specs.Steps.{State, SiteStep, AreLater, HasBroken, HasFailed, RunsOn, FindsFullBehind, told_behind}
+use Rattle.hl_model.specs.Steps.{State, SiteStep, HasBroken, RunsOn, told_behind}
 use Rattle.hl_model.specs.Units.{AreEmptied, Cleans, CleansMore, LeavesLog, WritesMore, LogGoesOn, Middles, writes_more}
 use Rattle.hl_model.proofs.ClaimedBlocks.{in_cons, in_head, in_none}
 use Rattle.hl_model.proofs.WorkedExamples.{site_a, fresh_site, log_with, no_log, one_block, path, staged_site, the_first_staging_takes_slot_0_and_line_0}

@@ -1,11 +1,10 @@
 -- A stopped site changes neither its tree nor its shelf, and stays stopped.
-use Rattle.std.proofs.Common.{arith, ◌≡◌, ℕ, Bool, true, false, ◌&&◌, List, Option, Some, None, Result, Ok, Err, ok_or, is_none, refl, ap, sym, ◌∙◌, subst, T}
+use Rattle.std.proofs.Common.{arith, ◌≡◌, ℕ, Bool, true, false, ◌&&◌, List, Option, Some, None, Ok, Err, ok_or, is_none, refl, ap, sym, ◌∙◌, subst, T}
 use Rattle.hl_addr.specs.Layout.{Layout}
 use Rattle.hl_media.specs.declared.job.Carried.{Carried}
 use Rattle.hl_tree.specs.Refusals.{◌>>=◌}
 use Rattle.hl_tree.specs.Rules.{Files}
 use Rattle.hl_placed.specs.Blocks.{Shelf}
-use Rattle.hl_placed.specs.Placed.{PlacedTree}
 use Rattle.hl_model.specs.Answers.{SiteAnswer}
 use Rattle.hl_model.specs.Answers as answers
 use Rattle.hl_model.specs.Causes.{calls_device, may_fail}

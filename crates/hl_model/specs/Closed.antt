@@ -1,6 +1,5 @@
 -- What a closing leaves.
-use Rattle.std.specs.Prelude.{◌≡◌, ◌⊎◌, ℕ, ◌<◌, ◌≤◌, true, false, List, [], None}
-use Rattle.hl_media.specs.declared.job.JobNote.{JobNote}
+use Rattle.std.specs.Prelude.{◌≡◌, ◌⊎◌, ◌<◌, ◌≤◌, true, false, [], None}
 use Rattle.hl_model.specs.Cleaning.{LogUse}
 use Rattle.hl_model.specs.Mounted.{OpeningTables}
 use Rattle.hl_model.specs.Site.{SiteState}

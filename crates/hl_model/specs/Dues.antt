@@ -1,5 +1,5 @@
 -- What a step writes in the log before its rules.
-use Rattle.std.specs.Prelude.{Bool, true, false, ◌&&◌, ◌||◌, not, nat_le, nat_lt, is_none}
+use Rattle.std.specs.Prelude.{Bool, false, ◌&&◌, ◌||◌, not, nat_le, nat_lt, is_none}
 use Rattle.hl_addr.specs.Layout.{Layout}
 use Rattle.hl_tree.specs.declared.call.Call.{Call}
 use Rattle.hl_tree.specs.declared.call.Call.TheVariants as calls

@@ -8,7 +8,6 @@ use Rattle.hl_script.specs.declared.line.Line.TheVariants as line
 use Rattle.hl_script.specs.declared.said.Said.{Said}
 use Rattle.hl_script.specs.declared.said.Said.TheVariants as said
 use Rattle.hl_tree.specs.Rules.{Files, after, reply}
-use Rattle.hl_tree.specs.declared.call.Call.{Call}
 use Rattle.hl_tree.specs.declared.call.Reply.{Reply}
 use Rattle.hl_model.specs.Answers.{SiteAnswer}
 use Rattle.hl_model.specs.Events.{SiteEvent, Rank, Stage, BeginCopy, BeginFetch, Eject, CleanOne, Checkpoint}

@@ -1,5 +1,5 @@
 -- One step of a site.
-use Rattle.std.specs.Prelude.{◌≡◌, ℕ, ◌<◌, ◌≤◌, Bool, true, false, List, Some, ◌⊎◌}
+use Rattle.std.specs.Prelude.{◌≡◌, ℕ, ◌<◌, ◌≤◌, true, false, List, Some, ◌⊎◌}
 use Rattle.std.specs.FinMap.{insert}
 use Rattle.hl_addr.specs.Layout.{Layout}
 use Rattle.hl_media.specs.Causes.{Rose}

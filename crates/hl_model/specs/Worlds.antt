@@ -9,7 +9,7 @@ use Rattle.hl_placed.specs.Blocks.{Shelf}
 use Rattle.hl_model.specs.Answers.{SiteAnswer}
 use Rattle.hl_model.specs.Answers as answers
 use Rattle.hl_model.specs.Events.{SiteEvent, Back, EndJob}
-use Rattle.hl_model.specs.Runs.{Stepped, Takes, shelf_behind}
+use Rattle.hl_model.specs.Runs.{Takes, shelf_behind}
 use Rattle.hl_model.specs.Steps.{State}
 use Rattle.hl_model.specs.Units.{Middles}
 
